@@ -1,16 +1,18 @@
 -- Flags that tell whether a part remains, and whether an access is live in it, by the flags of the parts that were read of a whole.
-use Rattle.std.specs.Prelude.{◌≡◌, ℕ, nat_eq, Bool, true, false, ◌||◌, ◌&&◌, if◌then◌else◌, List, [], ◌∷◌, Option, Some, None, refl}
-use Rattle.std.proofs.Common.{sym, ap, subst}
-use Rattle.kernel_code.specs.declared.syntax.KExpr.{KExpr}
+use Rattle.std.specs.Prelude.{◌≡◌, ℕ, nat_eq, Bool, true, false, ◌||◌, ◌&&◌, if◌then◌else◌, List, [], ◌∷◌, Some, None, refl}
+use Rattle.std.proofs.Common.{◌∙◌, sym, ap, subst, arith}
+use Rattle.std.proofs.lemmas.Bool.Decides.{nat_tests}
+use Rattle.kernel_code.specs.declared.syntax.KExpr.{KExpr, Num as NumberOf}
 use Rattle.index_notation.specs.declared.operator.Operator.{Operator}
-use Rattle.index_notation.specs.declared.syntax.Expr.{Expr, Binary}
+use Rattle.index_notation.specs.declared.syntax.Expr.{Expr, Num as Number, Access as AccessOf, Binary}
 use Rattle.index_notation.specs.Operators.{is_there}
 use Rattle.loop_code.specs.declared.loops.LoopCode.{LoopCode, Sum}
 use Rattle.loop_code.specs.declared.loops.Seek.{Seek}
 use Rattle.loop_code.specs.Loops.{Env}
-use Rattle.loop_code.specs.Parts.{here, given, is_other, remains, is_live, remains_below, is_live_below}
+use Rattle.loop_code.specs.Parts.{here, given, is_full, is_other, remains, is_live, remains_below, is_live_below}
 use Rattle.term_code.specs.declared.places.Places.{Places}
 use Rattle.term_code.specs.Presence.{Tells}
+use Rattle.term_code.proofs.PresenceLaws.{tells_number, tells_same}
 use Rattle.loop_flags.specs.Flags.{TellsEither, TellsBoth, TellsSides}
 use Rattle.loop_flags.specs.Told.{Told, ArePresent, TellsOf, flag_of}
 use Rattle.loop_flags.proofs.LiveLaws.{live_remains, live_binary, live_sum, remains_sum}
@@ -28,6 +30,12 @@ live_at P k e env = is_live (P env) e k
 
 abbrev pub live_at_below : (Env → ℕ → Bool) → ℕ → LoopCode → Env → Bool
 live_at_below P k c env = is_live_below (P env) c k
+
+itself : (k : ℕ) (b : Bool) → b ≡ (nat_eq k k && b)
+itself k b = sym (ap (λ c. c && b) (same k))
+  where
+    same : (k : ℕ) → nat_eq k k ≡ true
+    same k = grind (arith, nat_tests)
 
 some_is : (x y : KExpr) → Some x ≡ Some y → x ≡ y
 some_is x y h = cc
@@ -61,6 +69,37 @@ module _ (places : Places) where
           subst (λ b. (if b then f env else P env j) ≡ (is_other seeks j && here env j)) (sym at) (are.others j none env)
 
   module _ (told : List Told) where
+    -- an access of which a flag is given, and one of which none is
+    pub told_given : (seeks : List Seek) (k : ℕ) (flag : KExpr) → flag_of told k ≡ Some flag
+        → TellsOf places told seeks (λ P. remains P (AccessOf k)) flag
+    told_given seeks k flag is P are = are.given k flag is
+
+    pub told_other : (seeks : List Seek) (k : ℕ) (flag : KExpr) → flag_of told k ≡ None
+        → Tells places (λ env. is_other seeks k && here env k) flag → TellsOf places told seeks (λ P. remains P (AccessOf k)) flag
+    told_other seeks k flag none tells P are =
+        tells_same places (λ env. is_other seeks k && here env k) (λ env. P env k) flag (λ env. sym (are.others k none env)) tells
+
+    pub told_number : (seeks : List Seek) (e : Expr) (n : ℕ) (flag : KExpr) → e ≡ Number n
+        → Tells places (λ env. is_full (is_other seeks) (here env) e) flag → TellsOf places told seeks (λ P. remains P e) flag
+    told_number seeks e n flag is tells =
+        subst (λ f. TellsOf places told seeks (λ P. remains P f) flag) (sym is)
+        (λ P are. subst (λ f. Tells places (λ env. is_full (is_other seeks) (here env) f) flag) is tells)
+
+    pub live_given : (k : ℕ) (flag : KExpr) → flag_of told k ≡ Some flag → TellsOf places told [] (λ P. is_live P (AccessOf k) k) flag
+    live_given k flag is P are =
+        tells_same places (λ env. P env k) (λ env. nat_eq k k && P env k) flag (λ env. itself k (P env k)) (are.given k flag is)
+
+    pub live_there : (k : ℕ) (flag : KExpr) → flag_of told k ≡ None → Tells places (λ env. here env k) flag
+        → TellsOf places told [] (λ P. is_live P (AccessOf k) k) flag
+    live_there k flag none tells P are =
+        tells_same places (λ env. here env k) (λ env. nat_eq k k && P env k) flag
+        (λ env. sym (are.others k none env) ∙ itself k (P env k)) tells
+
+    pub live_apart : (j k : ℕ) → nat_eq j k ≡ false → TellsOf places told [] (λ P. is_live P (AccessOf j) k) (NumberOf 0)
+    live_apart j k apart P are =
+        tells_same places (λ env. false) (λ env. nat_eq j k && P env j) (NumberOf 0) (λ env. sym (ap (λ b. b && P env j) apart))
+        (tells_number places false)
+
     pub flag_sides : (k : ℕ) (whole : Expr) (o : Operator) (e f e' f' : Expr) (x y flag : KExpr) → whole ≡ Binary o e f → e' ≡ e → f' ≡ f
         → TellsOf places told [] (λ P. is_live P e' k) x → TellsOf places told [] (λ P. is_live P f' k) y
         → TellsSides places told o e' f' x y flag → TellsOf places told [] (λ P. is_live P whole k) flag

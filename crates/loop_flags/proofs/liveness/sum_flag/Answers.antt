@@ -1,4 +1,4 @@
-use Rattle.std.specs.Prelude.{[], ◌∷◌}
+use Rattle.std.specs.Prelude.{[]}
 use Rattle.std.proofs.Common.{◌∙◌, subst}
 use Rattle.loop_code.specs.Parts.{here, given, is_live_below, remains_below}
 use Rattle.loop_flags.specs.Told.{TellsOf}

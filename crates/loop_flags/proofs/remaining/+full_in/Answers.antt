@@ -1,12 +1,14 @@
 use Rattle.std.specs.Prelude.{◌<◌, length}
+use Rattle.std.proofs.Common.{◌∙◌, sym, subst}
 use Rattle.index_notation.specs.declared.syntax.Expr.{Binary, Neg}
 use Rattle.expr_terms.proofs.Heights.{falls, parts_of_binary, part_of_neg}
-use Rattle.loop_code.specs.Parts.{remains}
+use Rattle.loop_code.specs.Parts.{here, is_full, is_other, remains}
+use Rattle.term_code.specs.Presence.{Tells}
 use Rattle.term_code.proofs.Parts.{first_side, second_side, negated_part}
 use Rattle.loop_flags.specs.Told.{TellsOf}
 use Rattle.loop_flags.proofs.LiveLaws.{remains_binary, remains_neg}
 use Rattle.loop_flags.proofs.FlagLaws.{if_flag, tells_part, tells_parts_there}
-use Rattle.loop_flags.proofs.FlagParts.{remains_at}
+use Rattle.loop_flags.proofs.FlagParts.{remains_at, told_given, told_number, told_other}
 use Rattle.loop_flags.proofs.remaining.+full_in.Goals as goal
 
 pub full_in-requires : goal.full_in-requires
@@ -37,6 +39,33 @@ full_in-requires-in-Neg t c = (
   negated_part (λ k. k < length c.args.places.now.accesses) c.args.expr.now c.in-Neg.inner c.get-in-Neg.result.now c.in-Neg.is
       c.get-in-Neg.ensures c.requires,
 )
+
+pub returns-in-Num : goal.returns-in-Num
+returns-in-Num t c =
+    let places = c.args.places.now in
+    let told = c.args.told.now in
+    let seeks = c.args.seeks.now in
+    if_flag c.fullness_of.result (Tells places (λ env. is_full (is_other seeks) (here env) c.args.expr.now))
+    (TellsOf places told seeks (λ P. remains P c.args.expr.now))
+    (λ x h. told_number places told seeks c.args.expr.now c.in-Num.field-0 x c.in-Num.is h) c.fullness_of.ensures
+
+pub returns-in-Some : goal.returns-in-Some
+returns-in-Some t c =
+    subst (λ e. TellsOf c.args.places.now c.args.told.now c.args.seeks.now (λ P. remains P e) c.in-Some.flag) (sym c.in-Access.is)
+    (told_given c.args.places.now c.args.told.now c.args.seeks.now c.in-Access.access c.in-Some.flag
+    (sym c.in_ok-flag-in-Access.ensures ∙ c.in-Some.is))
+
+pub returns-in-None : goal.returns-in-None
+returns-in-None t c =
+    let places = c.args.places.now in
+    let told = c.args.told.now in
+    let seeks = c.args.seeks.now in
+    let k = c.in-Access.access in
+    if_flag c.fullness_of-in-None.result (Tells places (λ env. is_full (is_other seeks) (here env) c.args.expr.now))
+    (TellsOf places told seeks (λ P. remains P c.args.expr.now))
+    (λ x h. subst (λ e. TellsOf places told seeks (λ P. remains P e) x) (sym c.in-Access.is)
+    (told_other places told seeks k x (sym c.in_ok-flag-in-Access.ensures ∙ c.in-None.is)
+    (subst (λ e. Tells places (λ env. is_full (is_other seeks) (here env) e) x) c.in-Access.is h))) c.fullness_of-in-None.ensures
 
 pub returns-in_ok-flag-in-Binary : goal.returns-in_ok-flag-in-Binary
 returns-in_ok-flag-in-Binary t c = λ P are.

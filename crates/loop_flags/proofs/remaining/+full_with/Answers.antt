@@ -83,17 +83,17 @@ returns-in_ok-flag-in-Both t c = λ P are.
     c.get-in-Both-2.ensures (λ env. remains_both (P env) f g) (c.in_ok-x-in-Both.ensures P are) (c.in_ok-y-in-Both.ensures P are)
     c.in_ok-flag-in-Both.ensures
 
-pub returns-in_ok-more : goal.returns-in_ok-more
-returns-in_ok-more t c =
+pub returns-in_ok-more-in-Sum : goal.returns-in_ok-more-in-Sum
+returns-in_ok-more-in-Sum t c =
     let places = c.args.places.now in
     let told = c.args.told.now in
     let seeks = c.args.seeks.now in
     let k = c.in-Sum.sum in
     let f = c.in-Sum.inside in
     let g = c.in-Sum.body in
-    if_flag c.full_with-in_ok-more.result (TellsOf places c.as_slice.result.now seeks (λ P. remains_below P c.get-in_ok-more.result.now))
+    if_flag c.full_with-in-Sum-2.result (TellsOf places c.as_slice.result.now seeks (λ P. remains_below P c.get-in-Sum-2.result.now))
     (TellsOf places told seeks (λ P. remains_below P c.args.loops.now))
-    (λ x h. remains_summed places told c.args.loops.now k f g c.get-in-Sum.result.now c.get-in_ok-more.result.now c.in-Sum.is
-    c.get-in-Sum.ensures c.get-in_ok-more.ensures seeks c.in_ok-within.within x c.as_slice.result.now
-    (c.as_slice.ensures ∙ c.in_ok-more.ensures) c.in_ok-within.ensures h)
-    c.full_with-in_ok-more.ensures
+    (λ x h. remains_summed places told c.args.loops.now k f g c.get-in-Sum.result.now c.get-in-Sum-2.result.now c.in-Sum.is
+    c.get-in-Sum.ensures c.get-in-Sum-2.ensures seeks c.in_ok-within-in-Sum.within x c.as_slice.result.now
+    (c.as_slice.ensures ∙ c.in_ok-more-in-Sum.ensures) c.in_ok-within-in-Sum.ensures h)
+    c.full_with-in-Sum-2.ensures

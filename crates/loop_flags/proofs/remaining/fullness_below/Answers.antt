@@ -1,4 +1,4 @@
-use Rattle.std.specs.Prelude.{◌&&◌, []}
+use Rattle.std.specs.Prelude.{◌&&◌}
 use Rattle.loop_code.specs.Parts.{here, remains_below, is_full_below, is_other}
 use Rattle.loop_code.proofs.Parts.{full_part}
 use Rattle.std.specs.Prelude.{refl}
