@@ -134,8 +134,8 @@ module _ (a : Arithmetic) (laws : Laws a) (s : Statement) (formats : List (List 
   have_values : HaveValues a s (told_by a s store) rows
   have_values =
       let t = told s formats store read_store a laws in
-      (are_right s f.numbered formats c in_order f.named loops adds).added a laws (told_by a s store) (stored_in (operands_in s store)) t.held
-      t.elsewhere
+      (are_right s f.numbered formats c in_order f.named loops adds).added a laws (told_by a s store) (stored_in (operands_in s store))
+      t.held t.elsewhere
 
   leaves : (arrays : Arrays) → HoldsSums (modes_of store.format) a (left_ranges s store) rows arrays
       → LeavesResult a s (told_by a s store) store arrays

@@ -54,8 +54,8 @@ ArePlacesOf s accesses =
     (k : ℕ) (p : AccessPlace) → slice_get accesses k ≡ Some p
     → (x : Access) × (slice_get s.accesses k ≡ Some x) × (p.tensor ≡ x.tensor) × (p.is_sum ≡ nat_le (first_summed s) x.tensor)
 
--- as a run starts: the arrays hold the levels and values of all accesses of tensors, none of which is the result, and the ranges; and before
--- all loops each of them may be asked from its top
+-- as a run starts: the arrays hold the levels and values of all accesses of tensors, none of which is the result, and the ranges; and
+-- before all loops each of them may be asked from its top
 pub record ArrayStands (s : Statement) (formats : List (List FormatLevel)) (store : Store) (accesses : List AccessPlace) (arrays : Arrays)
     : Type 0 where
   pub ready : AreReady s formats accesses (operands_in s store) arrays

@@ -103,8 +103,9 @@ returns-in_ok-flag-in-Sum t c =
     let places = c.args.places.now in
     let body = c.get-body.result.now in
     live_summed c.args.places.now c.args.told.now c.args.loops.now c.in-Sum.sum c.in-Sum.inside c.in-Sum.body c.get-inside.result.now
-    c.get-body.result.now c.in-Sum.is c.get-inside.ensures c.get-body.ensures c.args.access c.in_ok-remains-in-Sum.remains c.in_ok-direct-in-Sum.direct
-    c.in_ok-summed-in-Sum.summed c.in_ok-within-in-Sum.within c.in_ok-through-in-Sum.through c.in_ok-flag-in-Sum.flag c.in_ok-more-in-Sum.more c.in_ok-more-in-Sum.ensures
+    c.get-body.result.now c.in-Sum.is c.get-inside.ensures c.get-body.ensures c.args.access c.in_ok-remains-in-Sum.remains
+    c.in_ok-direct-in-Sum.direct c.in_ok-summed-in-Sum.summed c.in_ok-within-in-Sum.within c.in_ok-through-in-Sum.through
+    c.in_ok-flag-in-Sum.flag c.in_ok-more-in-Sum.more c.in_ok-more-in-Sum.ensures
     c.in_ok-remains-in-Sum.ensures
     (subst (λ m. TellsOf places m [] (λ P. is_live_below P body c.args.access) c.in_ok-direct-in-Sum.direct) c.as_slice.ensures
     c.in_ok-direct-in-Sum.ensures)
