@@ -36,7 +36,7 @@ use Rattle.kernel_correctness.specs.Results.{LeavesResult}
 use Rattle.kernel_correctness.specs.Stores.{Store, IsStoreOf, IsGiven, result_sizes, told_by}
 use Rattle.kernel_correctness.proofs.CodeEnds.{ends_as_code_does}
 use Rattle.kernel_correctness.proofs.Starts.{starts_on_store}
-use Rattle.operand_arrays.specs.Apart.{AreFrom}
+use Rattle.operand_arrays.specs.Apart.{AreOutside}
 use Rattle.operand_arrays.specs.Operands.{stored_in}
 use Rattle.dense_results.specs.Kernels.{AreAtBase}
 use Rattle.dense_results.specs.Operands.{operands_in}
@@ -122,7 +122,7 @@ module _ (a : Arithmetic) (laws : Laws a) (s : Statement) (formats : List (List 
         few = starts_few (letters_of store.format) (in_level_order store.format store.ranges) small.each is.few;
       }
 
-  module _ (base : ℕ) (places : Places) (at : AreAtBase s base places) (from : AreFrom (behind k) places) (apart : behind k ≤ base)
+  module _ (base : ℕ) (places : Places) (at : AreAtBase s base places) (from : AreOutside 0 (behind k) places) (apart : behind k ≤ base)
       (top begin code end : List KStmt) (tops : StartsAt base top)
       (begins : BeginsFirst (letters_in k) (length k.levels) k.base (length k.levels) begin) (list past : ℕ) (spaces : List ℕ)
       (Allowed : Store → Place → ℕ → Type 0) (appends : AppendsFromTop a k s formats places keys loops list past spaces Allowed code)

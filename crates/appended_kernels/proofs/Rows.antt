@@ -48,7 +48,7 @@ module _ (a : Arithmetic) (laws : Laws a) (s : Statement) (formats : List (List 
     (in_order : IsInOrder s formats c) (f : IsForAppended s formats) (loops : LoopCode)
     (l : AreAppendedLoops s formats c loops) (store : Store) (is : IsStoreOf s formats store) where
   pub read_store : IsReadStore s formats store
-  read_store = record { numbered = f.ordered.numbered; named = f.ordered.named; read = f.read; is = is }
+  read_store = record { numbered = f.ordered.numbered; named = f.ordered.named; flat = f.flat; read = f.read; is = is }
 
   abbrev keys : List ℕ
   keys = left_in_order s in_order.order

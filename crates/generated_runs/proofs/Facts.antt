@@ -62,7 +62,7 @@ right_formats = (
 -- it has no nested sums, so no bad ones
 pub no_bad_sum : HasNoBadSum workload_statement
 unfolding workload_statement hidden-the_row-Expr-0 hidden
-no_bad_sum = record { left = tt; free = tt; sides = (tt, (tt, ((tt, (tt, (tt, tt))), tt))); inside = tt }
+no_bad_sum = record { left = tt; free = tt; sides = (tt, tt, (tt, tt, tt, tt), tt); inside = tt }
 
 pub few_formats : length workload_formats ≤ length workload_statement.tensors
 unfolding workload_statement workload_formats

@@ -344,6 +344,8 @@ module _ (a : Arithmetic) (laws : Laws a) (s : Statement) (formats : List (List 
           stands : Stands (beside_lists both 0 past) g s formats places (behind k) [] (λ j. 0) (operands_in s store)
               (slice_index store.ranges) start setting.arithmetic store.ranges [] u
           stands = record {
+            least = 0;
+            mine_from = λ y mine. omega arith;
             mine_below = λ y mine. elim mine [ inl m ↦ m.before | inr n ↦ absurd (from.workspace.laws.plain w y n) ];
             from = top.from;
             kept = λ b of. ((top.kept b of, from.workspace.operands b of), operand_apart 0 past b of);

@@ -20,3 +20,4 @@ mod within;
 pub use beginning::{Begun, begin_loop, end_loop};
 pub use emitting::{Emitted, emit};
 pub use opening::Opened;
+pub use summing::{Summing, begin_sum, end_sum};

@@ -15,23 +15,23 @@ use trees::Items;
 
 /// A sum without its loops.
 #[derive(Drop)]
-pub(crate) struct Summing {
+pub struct Summing {
     /// Whether the sum has to be made.
-    pub(crate) flag: KExpr,
+    pub flag: KExpr,
     /// The variables in which it is made.
-    pub(crate) sink: SumSink,
+    pub sink: SumSink,
     /// The code that begins the sum.
-    pub(crate) begin: Items<KStmt>,
+    pub begin: Items<KStmt>,
     /// The code behind its loops, which leaves it as what an access is kept as.
-    pub(crate) end: Items<KStmt>,
+    pub end: Items<KStmt>,
     /// Where accesses and variables are kept in the loops that read it.
-    pub(crate) places: Places,
+    pub places: Places,
     /// The first variable that is free behind those of the sum.
-    pub(crate) free: u64,
+    pub free: u64,
 }
 
 /// A sum without its loops, in three variables from `free` on. Refused only for want of memory.
-pub(crate) fn begin_sum<S: Semiring>(
+pub fn begin_sum<S: Semiring>(
     alloc: Global,
     places: &Places,
     sum: usize,
@@ -65,7 +65,7 @@ pub(crate) fn begin_sum<S: Semiring>(
 }
 
 /// The code of a sum: its loops are run where the flag isn't 0. Refused only for want of memory.
-pub(crate) fn end_sum(
+pub fn end_sum(
     alloc: Global,
     begin: Items<KStmt>,
     flag: KExpr,

@@ -27,7 +27,7 @@ use Rattle.operand_files.specs.Decoded.{Operand, IsReadable, AreReadable}
 use Rattle.operand_files.specs.Decoded as decoded
 use Rattle.operand_files.specs.Reads.{Given, paths_of, HaveRead}
 use Rattle.operand_files.specs.Reads as reads
-use Rattle.operand_packing.specs.Operands.{limit_of, operand_of, HasOrder, ReadsOperand, IsBounded, ReadsBounded, AreBounded}
+use Rattle.operand_packing.specs.Operands.{limit_of, operand_of, HasOrder, ReadsOperand, IsBounded, ReadsBounded, AreBounded, IsRead}
 use Rattle.operand_packing.proofs.RangesAbove.{ranges_long, bounded_below}
 use Rattle.operand_packing.specs.Orders.{operand_orders}
 use Rattle.operand_packing.specs.Runnable.{IsRunnable}

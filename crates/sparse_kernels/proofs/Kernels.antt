@@ -80,7 +80,7 @@ module _ (a : Arithmetic) (laws : Laws a) (s : Statement) (formats : List (List 
     (c : Concrete) (in_order : IsInOrder s formats c) (loops : LoopCode) (adds : AddsRows s formats c loops)
     (words : shapes.EachTerm (λ t. HasWords t.expr) loops) (store : Store) (is : IsStoreOf s formats store) where
   read_store : IsReadStore s formats store
-  read_store = record { numbered = f.numbered; named = f.named; read = f.read; is = is }
+  read_store = record { numbered = f.numbered; named = f.named; flat = f.flat; read = f.read; is = is }
 
   ordered : HasOrderedResult s formats
   ordered = record { numbered = f.numbered; named = f.named; left = f.left; format = f.format; some = f.some }

@@ -1,5 +1,5 @@
 -- Growths that are refused may be.
-use Rattle.std.specs.Prelude.{◌≡◌, ◌⊎◌, ℕ, suc, ◌<◌, List, length, refl}
+use Rattle.std.specs.Prelude.{◌≡◌, ◌⊎◌, ℕ, suc, List, length, refl}
 use Rattle.std.proofs.Common.{sym, ap, subst, arith, inl, inr}
 use Rattle.limits.specs.Limits.{greatest_position_count, greatest_workspace_pairs}
 use Rattle.numbers.specs.Arithmetic.{Arithmetic}
@@ -73,7 +73,8 @@ module _ (a : Arithmetic) (s : Statement) (store : Store) where
       → PassesLevel store rows d b count → IsRightOutcome a s (told_by a s store) store (TooLong (place_of (length store.format) b) count)
   level_may_pass rows are d b count p = by p.array
     where
-      by : IsOf 0 (suc d) b ⊎ (b ≡ Values 0) → IsRightOutcome a s (told_by a s store) store (TooLong (place_of (length store.format) b) count)
+      by : IsOf 0 (suc d) b ⊎ (b ≡ Values 0)
+          → IsRightOutcome a s (told_by a s store) store (TooLong (place_of (length store.format) b) count)
       by (inl of) =
           subst (IsRightAt count) (sym (level_place (length store.format) d b of))
           (level_passes rows are d b count p (suc d) (inl (omega arith)))

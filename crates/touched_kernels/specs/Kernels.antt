@@ -31,7 +31,7 @@ use Rattle.term_code.specs.declared.places.Places.{Places}
 use Rattle.term_code.specs.Places.{AreBelow, Keeps, StartsAt}
 use Rattle.kernel_correctness.specs.Kernels.{Ends, IsRightOutcome}
 use Rattle.kernel_correctness.specs.Stores.{Store, IsGiven, IsStoreOf, told_by}
-use Rattle.operand_arrays.specs.Apart.{AreFrom}
+use Rattle.operand_arrays.specs.Apart.{AreOutside}
 use Rattle.operand_arrays.specs.Operands.{stored_in, IsOfOperands}
 use Rattle.dense_results.specs.Kernels.{AreAtBase}
 use Rattle.dense_results.specs.Operands.{IsReadStore, ArrayStands, operands_in}
@@ -72,7 +72,7 @@ pub record IsAtTop (a : Arithmetic) (k : TouchedSink) (s : Statement) (formats :
     (places : Places) (st : State) : Type 0 where
   pub stands : ArrayStands s formats store places.accesses st.arrays
   pub keeps : Keeps places [] start st
-  pub from : AreFrom 0 places
+  pub from : AreOutside 0 0 places
   pub kept : (b : Arr) → IsOfOperands b → touched_sink.kept k b
   pub held : touched_sink.holds k a (ranges_on k store) [] st
 
