@@ -270,7 +270,13 @@ module _ (a : Arithmetic) (laws : Laws a) (s : Statement) (formats : List (List 
     ends body =
         let e = ends_as_code_does a (length store.format) kernel arrays IsEnd MayEnd
         (subst (λ (b : List KStmt). Does setting b first IsEnd MayEnd) (sym body) whole) in
-        record { turns = e.turns; outcome = e.outcome; is = e.is; appends = e.appends; so = done_told a s store most Allowed e.outcome e.so }
+        record {
+          turns = e.turns;
+          outcome = e.outcome;
+          is = e.is;
+          appends = e.appends;
+          so = done_told a s store most Allowed e.outcome e.so;
+        }
 
 pub appended_kernels_are_right : AppendedKernelsAreRight
 appended_kernels_are_right a laws s formats c in_order f loops l k fits base places at from apart top begin code end tops begins list past

@@ -1,5 +1,5 @@
--- When a kernel is right whose result is appended to: rows whose sums are those of the loops' rows are appended in the order of the result's
--- levels, as they come or out of workspaces, and behind the loops each level's last parent is given its positions.
+-- When a kernel is right whose result is appended to: rows whose sums are those of the loops' rows are appended in the order of the
+-- result's levels, as they come or out of workspaces, and behind the loops each level's last parent is given its positions.
 use Rattle.std.specs.Prelude.{◌≡◌, ℕ, ◌+◌, ◌*◌, ◌≤◌, false, List, [], ◌++◌, length, Some, slice_get}
 use Rattle.std.specs.List.{list_any}
 use Rattle.numbers.specs.Arithmetic.{Arithmetic, Laws}
@@ -50,7 +50,7 @@ use Rattle.appended_results.specs.Heads.{IsHead}
 use Rattle.appended_results.specs.declared.sink.AppendedSink.{AppendedSink}
 use Rattle.appended_results.specs.Sink.{appended_sink, letters_in}
 
--- a statement with a format for each tensor that stands for no sum, that of its result not dense throughout and of levels that have an order
+-- a statement with a format for each tensor that stands for no sum, that of its result not dense throughout and of levels with an order
 pub record IsForAppended (s : Statement) (formats : List (List FormatLevel)) : Type 0 where
   pub ordered : HasOrderedResult s formats
   pub flat : IsFlat s formats
