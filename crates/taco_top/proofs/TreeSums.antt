@@ -136,10 +136,12 @@ module _ (vars : List Name) where
         let one = nested_sum vars var (sum_expr n m sum) in
         read_on m (sums_of_sum vars n m sum) (one ∷ []) (sum_expr n m sum) (AccessOf (m + sums_in_sum sum)) (sum_read n m sum)
         (λ j there. or_second (nat_eq (m + sums_in_sum sum) j) (reads_leaf j (sum_expr n m sum) || false)
-        (or_first (reads_leaf j (sum_expr n m sum)) false there))
-        (or_first (nat_eq (m + sums_in_sum sum) (m + length (sums_of_sum vars n m sum)))
-        (some_reads (m + length (sums_of_sum vars n m sum)) [])
-        (eq-eqb (m + sums_in_sum sum) (m + length (sums_of_sum vars n m sum)) (ap (λ c. m + c) (sym (many_in_sum n m sum)))), tt)
+        (or_first (reads_leaf j (sum_expr n m sum)) false there)) (
+          or_first (nat_eq (m + sums_in_sum sum) (m + length (sums_of_sum vars n m sum)))
+              (some_reads (m + length (sums_of_sum vars n m sum)) [])
+              (eq-eqb (m + sums_in_sum sum) (m + length (sums_of_sum vars n m sum)) (ap (λ c. m + c) (sym (many_in_sum n m sum)))),
+          tt,
+        )
 
     product_read : (n m : ℕ) (product : Product) → AreRead m (sums_of_product vars n m product) (product_expr n m product)
     product_read n m (Lone factor) = factor_read n m factor
