@@ -11,7 +11,7 @@ use Rattle.index_notation.specs.declared.syntax.Statement.{Statement}
 use Rattle.iteration_graph.specs.Edges.{format_of}
 use Rattle.tensor_storage.specs.Storages.{Storage}
 use Rattle.storage_arrays.specs.Arrays.{AreDone}
-use Rattle.kernel_correctness.specs.Kernels.{IsRightKernel, IsSoundOn}
+use Rattle.kernel_correctness.specs.Kernels.{IsRightFor, IsSoundOn}
 use Rattle.kernel_machine.specs.Begins.{store_of}
 use Rattle.operand_packing.specs.Operands.{AreOperands, AreRanges}
 use Rattle.limits.specs.Limits.{greatest_position_count}

@@ -15,6 +15,8 @@ use Rattle.expr_terms.specs.Nested.{flat, nested_value}
 use Rattle.expr_terms.specs.Terms.{statement_value}
 use Rattle.workspaces.specs.PresenceLaws.{AreZeroElsewhere}
 use Rattle.workspaces.proofs.NestedZeros.{flat_zero_elsewhere}
+use Rattle.concrete_notation.specs.Contributions.{Inputs}
+use Rattle.kernel_correctness.proofs.FlatStores.{told_flat}
 use Rattle.mode_planner.proofs.NestedSame.{nested_value_same}
 use Rattle.tns_io.specs.Positions.{IsBelow}
 use Rattle.level_core.specs.declared.letter.Letter.{Letter}

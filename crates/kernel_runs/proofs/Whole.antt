@@ -19,12 +19,12 @@ use Rattle.tensor_storage.specs.Stands.{IsPacked}
 use Rattle.tensor_storage.specs.Storages.{Storage, in_level_order, storage_of}
 use Rattle.storage_arrays.proofs.Packed.{packed_are_done}
 use Rattle.kernel_interpreter.specs.Store.{count_of}
-use Rattle.kernel_correctness.specs.Kernels.{IsRightKernel, IsRightOutcome, IsSoundOn, standing_order}
+use Rattle.expr_terms.specs.Nested.{flat}
+use Rattle.kernel_correctness.specs.Kernels.{AreFewPairs, IsRightFor, IsRightOutcomeFor, IsSoundOn}
 use Rattle.kernel_correctness.specs.Results.{LeavesResult}
 use Rattle.kernel_correctness.specs.Stores.{Store, told_by}
-use Rattle.lowering.specs.Right.{pairs}
 use Rattle.limits.specs.Limits.{greatest_position_count}
-use Rattle.kernel_correctness.proofs.Sound.{right_is_sound}
+use Rattle.kernel_correctness.proofs.Sound.{right_for_is_sound}
 use Rattle.kernel_machine.specs.Begins as begins
 use Rattle.kernel_machine.specs.Begins.{store_of}
 use Rattle.storage_builder.specs.Made.{AllAlike}

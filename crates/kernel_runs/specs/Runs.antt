@@ -11,9 +11,9 @@ use Rattle.level_core.specs.Meaning.{Arrays}
 use Rattle.format_spec.specs.declared.format.FormatLevel.{FormatLevel}
 use Rattle.format_spec.specs.Formats.{letters_of}
 use Rattle.index_notation.specs.declared.syntax.Statement.{Statement}
-use Rattle.iteration_graph.specs.Edges.{format_of}
+use Rattle.iteration_graph.specs.Edges.{format_of, statement_edges}
 use Rattle.expr_terms.specs.Operands.{operand_values}
-use Rattle.expr_terms.specs.Terms.{statement_value}
+use Rattle.expr_terms.specs.Nested.{flat, nested_value}
 use Rattle.expr_terms.specs.declared.bound.Bound.{Bound}
 use Rattle.tns_io.specs.Positions.{IsBelow}
 use Rattle.concrete_notation.specs.Workspaces.{AreAllDense}
@@ -22,7 +22,8 @@ use Rattle.tensor_storage.specs.Counts.{AreFew, positions_of}
 use Rattle.tensor_storage.specs.Stands.{IsPacked}
 use Rattle.tensor_storage.specs.Storages.{Storage, in_level_order}
 use Rattle.tensor_storage.specs.Tables.{Table}
-use Rattle.kernel_correctness.specs.Kernels.{standing_order}
+use Rattle.iteration_graph.specs.Graphs.{IsLoopOrder}
+use Rattle.kernel_correctness.specs.Kernels.{AreFewPairs, looped, standing_order}
 use Rattle.kernel_correctness.specs.Results.{IsNamedResult, MayPass}
 use Rattle.kernel_correctness.specs.Stores.{Store, IsGiven, StartsFew, IsStoreOf, told_by}
 use Rattle.kernel_machine.specs.Begins as begins

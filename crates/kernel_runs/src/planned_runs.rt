@@ -1,7 +1,7 @@
 //! A statement computed by the kernel of its planned one.
 ghost use Rattle.std.specs.Prelude.{IfOk, IfErr};
 ghost use Rattle.tensor_map.specs.Entries.{AreEntries};
-ghost use Rattle.kernel_correctness.specs.Kernels.{IsRightKernel};
+ghost use Rattle.kernel_correctness.specs.Kernels.{IsRightFor};
 ghost use Rattle.kernel_runs.specs.Planned.{IsPlannedRun, IsPlannedRunnable, MayRefusePlanned};
 
 use crate::fault::RunFault;
