@@ -59,7 +59,7 @@ module _ (a : Arithmetic) (laws : Laws a) (s : Statement) (formats : List (List 
     (list past : ℕ) (code : List KStmt)
     (adds : AddsFromTop a k s formats places (left_in_order s in_order.order) loops list past code) where
   abbrev rows_on : Store → List Entry
-  rows_on store = rows_to a s formats (told_by a store) (stored_in (operands_in s store)) (left_in_order s in_order.order) loops
+  rows_on store = rows_to a s formats (told_by a s store) (stored_in (operands_in s store)) (left_in_order s in_order.order) loops
 
   module _ (store : Store) (is : IsStoreOf s formats store) where
     same_levels : k.levels ≡ store.format

@@ -36,7 +36,7 @@ use Rattle.kernel_correctness.specs.Results.{LeavesResult}
 use Rattle.kernel_correctness.specs.Stores.{Store, IsStoreOf, IsGiven, result_sizes, told_by}
 use Rattle.kernel_correctness.proofs.CodeEnds.{ends_as_code_does}
 use Rattle.kernel_correctness.proofs.Starts.{starts_on_store}
-use Rattle.operand_arrays.specs.Apart.{AreFrom}
+use Rattle.operand_arrays.specs.Apart.{AreOutside}
 use Rattle.operand_arrays.specs.Operands.{stored_in}
 use Rattle.dense_results.specs.Kernels.{AreAtBase}
 use Rattle.dense_results.specs.Operands.{operands_in}
@@ -69,23 +69,23 @@ use Rattle.appended_kernels.proofs.Tops.{at_top}
 module _ (a : Arithmetic) (s : Statement) (store : Store) (most : LoopKind → ℕ) (Allowed : Store → Place → ℕ → Type 0) where
   -- the state leaves the result, and few turns were made
   abbrev IsDone : State → Type 0
-  IsDone t = LeavesResult a s (told_by a store) store t.arrays × ((j : LoopKind) → t.turns j ≤ most j)
+  IsDone t = LeavesResult a s (told_by a s store) store t.arrays × ((j : LoopKind) → t.turns j ≤ most j)
 
   -- the growth may be refused
   abbrev MayBe : (LoopKind → ℕ) → Arr → ℕ → Type 0
   MayBe turns b count = MayBeRefused a s store Allowed b count
 
   done_told : (o : KernelOutcome) → ToldOf (length store.format) IsDone MayBe o
-      → IsRightOutcome a s (told_by a store) store o × MakesNoMore most o × RefusesOnly (Allowed store) o
+      → IsRightOutcome a s (told_by a s store) store o × MakesNoMore most o × RefusesOnly (Allowed store) o
   done_told (Finished arrays turns) h = (
-    subst (LeavesResult a s (told_by a store) store) h.2 h.1.0,
+    subst (LeavesResult a s (told_by a s store) store) h.2 h.1.0,
     subst (λ (made : LoopKind → ℕ). (j : LoopKind) → made j ≤ most j) h.3 h.1.1,
     tt,
   )
   done_told (GotStuck statement) h = absurd h
   done_told (TooLong place count) h =
       let r = h.1 in (
-        subst (λ p. IsRightOutcome a s (told_by a store) store (TooLong p count)) r.2 r.1.right,
+        subst (λ p. IsRightOutcome a s (told_by a s store) store (TooLong p count)) r.2 r.1.right,
         tt,
         subst (λ p. Allowed store p count) r.2 r.1.allowed,
       )
@@ -99,7 +99,7 @@ module _ (a : Arithmetic) (laws : Laws a) (s : Statement) (formats : List (List 
   keys = left_in_order s in_order.order
 
   abbrev rows : List Entry
-  rows = rows_to a s formats (told_by a store) (stored_in (operands_in s store)) (left_in_order s in_order.order) loops
+  rows = rows_to a s formats (told_by a s store) (stored_in (operands_in s store)) (left_in_order s in_order.order) loops
 
   same_levels : k.levels ≡ store.format
   same_levels = fits.levels ∙ sym is.format_is
@@ -122,7 +122,7 @@ module _ (a : Arithmetic) (laws : Laws a) (s : Statement) (formats : List (List 
         few = starts_few (letters_of store.format) (in_level_order store.format store.ranges) small.each is.few;
       }
 
-  module _ (base : ℕ) (places : Places) (at : AreAtBase s base places) (from : AreFrom (behind k) places) (apart : behind k ≤ base)
+  module _ (base : ℕ) (places : Places) (at : AreAtBase s base places) (from : AreOutside 0 (behind k) places) (apart : behind k ≤ base)
       (top begin code end : List KStmt) (tops : StartsAt base top)
       (begins : BeginsFirst (letters_in k) (length k.levels) k.base (length k.levels) begin) (list past : ℕ) (spaces : List ℕ)
       (Allowed : Store → Place → ℕ → Type 0) (appends : AppendsFromTop a k s formats places keys loops list past spaces Allowed code)
@@ -265,12 +265,18 @@ module _ (a : Arithmetic) (laws : Laws a) (s : Statement) (formats : List (List 
         from_loops
 
     pub ends : kernel.body ≡ ((top ++ begin) ++ code) ++ end
-        → EndsSo a (length store.format) kernel arrays (λ outcome. IsRightOutcome a s (told_by a store) store outcome
+        → EndsSo a (length store.format) kernel arrays (λ outcome. IsRightOutcome a s (told_by a s store) store outcome
         × MakesNoMore most outcome × RefusesOnly (Allowed store) outcome)
     ends body =
         let e = ends_as_code_does a (length store.format) kernel arrays IsEnd MayEnd
         (subst (λ (b : List KStmt). Does setting b first IsEnd MayEnd) (sym body) whole) in
-        record { turns = e.turns; outcome = e.outcome; is = e.is; appends = e.appends; so = done_told a s store most Allowed e.outcome e.so }
+        record {
+          turns = e.turns;
+          outcome = e.outcome;
+          is = e.is;
+          appends = e.appends;
+          so = done_told a s store most Allowed e.outcome e.so;
+        }
 
 pub appended_kernels_are_right : AppendedKernelsAreRight
 appended_kernels_are_right a laws s formats c in_order f loops l k fits base places at from apart top begin code end tops begins list past

@@ -48,19 +48,19 @@ module _ (a : Arithmetic) (laws : Laws a) (s : Statement) (formats : List (List 
     (in_order : IsInOrder s formats c) (f : IsForAppended s formats) (loops : LoopCode)
     (l : AreAppendedLoops s formats c loops) (store : Store) (is : IsStoreOf s formats store) where
   pub read_store : IsReadStore s formats store
-  read_store = record { numbered = f.ordered.numbered; named = f.ordered.named; read = f.read; is = is }
+  read_store = record { numbered = f.ordered.numbered; named = f.ordered.named; flat = f.flat; read = f.read; is = is }
 
   abbrev keys : List ℕ
   keys = left_in_order s in_order.order
 
   abbrev rows : List Entry
-  rows = rows_to a s formats (told_by a store) (stored_in (operands_in s store)) (left_in_order s in_order.order) loops
+  rows = rows_to a s formats (told_by a s store) (stored_in (operands_in s store)) (left_in_order s in_order.order) loops
 
   abbrev sums : List Entry
   sums = sums_of a rows
 
   pub are_rows : AreRowsOfResult a s store (sums_of a
-      (rows_to a s formats (told_by a store) (stored_in (operands_in s store)) (left_in_order s in_order.order) loops))
+      (rows_to a s formats (told_by a s store) (stored_in (operands_in s store)) (left_in_order s in_order.order) loops))
   are_rows = loops_sum_to_result a laws s formats f.ordered store read_store c in_order loops l.rows l.words
 
   levels_are : result_levels s formats ≡ format_of formats 0
@@ -75,13 +75,13 @@ module _ (a : Arithmetic) (laws : Laws a) (s : Statement) (formats : List (List 
       ∙ length-map (format_of formats 0) (λ (level : FormatLevel). level.mode) ∙ ap length (sym is.format_is)
 
   pub each_row : Each (IsRow (length store.format))
-      (rows_to a s formats (told_by a store) (stored_in (operands_in s store)) (left_in_order s in_order.order) loops)
+      (rows_to a s formats (told_by a s store) (stored_in (operands_in s store)) (left_in_order s in_order.order) loops)
   each_row =
       subst (λ n. Each (IsRow n) rows) keys_many
       (loops_add_rows a laws s formats store read_store loops l.words (left_in_order s in_order.order))
 
   pub rows_for : AreRowsFor a store
-      (rows_to a s formats (told_by a store) (stored_in (operands_in s store)) (left_in_order s in_order.order) loops)
+      (rows_to a s formats (told_by a s store) (stored_in (operands_in s store)) (left_in_order s in_order.order) loops)
   rows_for = record { format = is.format; each = each_row; order = are_rows.order; below = are_rows.below }
 
   letters_many : length (letters_of store.format) ≡ length store.format
@@ -93,9 +93,9 @@ module _ (a : Arithmetic) (laws : Laws a) (s : Statement) (formats : List (List 
       listed_row sums (row_at rows i).coords ((sums_listed a rows (row_at rows i).coords).1 (listed_at rows i no_entry h))
 
   pub names_rows : NamesRows (length (letters_of store.format))
-      (rows_to a s formats (told_by a store) (stored_in (operands_in s store)) (left_in_order s in_order.order) loops)
+      (rows_to a s formats (told_by a s store) (stored_in (operands_in s store)) (left_in_order s in_order.order) loops)
       (table_of (sums_of a
-      (rows_to a s formats (told_by a store) (stored_in (operands_in s store)) (left_in_order s in_order.order) loops)))
+      (rows_to a s formats (told_by a s store) (stored_in (operands_in s store)) (left_in_order s in_order.order) loops)))
   names_rows = record {
     rise = subst (λ n. Increase (table_of sums).coords n (length sums)) (sym letters_many) are_rows.order;
     each = λ i h. let r = row_there i h in (r.0, r.1, (λ d within. ap (λ xs. slice_index xs d) r.2));
@@ -134,9 +134,9 @@ module _ (a : Arithmetic) (laws : Laws a) (s : Statement) (formats : List (List 
     in_turn =
         subst (λ n. NeverFallAt (row_coords rows) n (length rows)) front_many
         (subst (λ vs. NeverFallAt
-        (row_coords (rows_to a s formats (told_by a store) (stored_in (operands_in s store)) vs loops)) (length (head s formats))
-        (length (rows_to a s formats (told_by a store) (stored_in (operands_in s store)) vs loops))) same_keys
-        (lowered_rows_come_in_order s formats has_result c in_order l.shares (inl l.none) direct loops l.shape a (told_by a store)
+        (row_coords (rows_to a s formats (told_by a s store) (stored_in (operands_in s store)) vs loops)) (length (head s formats))
+        (length (rows_to a s formats (told_by a s store) (stored_in (operands_in s store)) vs loops))) same_keys
+        (lowered_rows_come_in_order s formats has_result c in_order l.shares (inl l.none) direct loops l.shape a (told_by a s store)
         (stored_in (operands_in s store))).places)
 
     row_long : (i : ℕ) → i < length rows → k.head ≤ length (row_at rows i).coords
@@ -148,7 +148,7 @@ module _ (a : Arithmetic) (laws : Laws a) (s : Statement) (formats : List (List 
         omega (arith, many, within, all)
 
     pub rows_taken : TakesAll appended_sink k store.ranges []
-        (rows_to a s formats (told_by a store) (stored_in (operands_in s store)) (left_in_order s in_order.order) loops)
+        (rows_to a s formats (told_by a s store) (stored_in (operands_in s store)) (left_in_order s in_order.order) loops)
     rows_taken =
         takes_all (in_level_order store.format store.ranges) k.head rows row_below
         (λ i h. (each_at (IsRow (length store.format)) rows no_entry i each_row h).word) row_long in_turn k store.ranges

@@ -18,10 +18,10 @@ use Rattle.term_code.specs.declared.places.AccessPlace.{AccessPlace}
 use Rattle.term_code.specs.declared.places.Places.{Places}
 use Rattle.term_code.specs.Places.{new_access}
 use Rattle.kernel_correctness.specs.Stores.{Store, IsGiven}
-use Rattle.operand_arrays.specs.Apart.{AreFrom}
+use Rattle.operand_arrays.specs.Apart.{AreOutside}
 use Rattle.operand_arrays.specs.Operands.{IsOfOperands}
 use Rattle.dense_results.specs.Kernels.{AreAtBase}
-use Rattle.dense_results.specs.Operands.{IsReadStore}
+use Rattle.dense_results.specs.Operands.{IsReadStore, first_summed}
 use Rattle.dense_results.proofs.Operands.{arrays_stand}
 use Rattle.appended_results.specs.Levels.{IsKept}
 use Rattle.appended_results.specs.declared.sink.AppendedSink.{AppendedSink}
@@ -61,29 +61,30 @@ pub operands_kept : (b : Arr) → IsOfOperands b → IsKept b
 operands_kept b h = record { outside = λ k of. no_level k b h of; no_values = no_values b h }
 
 -- the place of each access, before all loops
-record IsNew (base : ℕ) (all : List Access) (k : ℕ) (p : AccessPlace) : Type 0 where
+record IsNew (base real : ℕ) (all : List Access) (k : ℕ) (p : AccessPlace) : Type 0 where
   access : Access
   is : slice_get all k ≡ Some access
-  place : p ≡ new_access base access.tensor
+  place : p ≡ new_access base real access.tensor
 
 some_same : (p q : AccessPlace) → Some p ≡ Some q → p ≡ q
 some_same p q h = cc
 
-place_new : (base : ℕ) (all : List Access) (k : ℕ) (p : AccessPlace)
-    → slice_get (map (new_access base) (map (λ (x : Access). x.tensor) all)) k ≡ Some p → IsNew base all k p
-place_new base [] k p is = absurd (cc)
-place_new base (x ∷ all) zero p is =
-    record { access = x; is = refl; place = sym (some_same (new_access base x.tensor) p is) }
-place_new base (x ∷ all) (suc k) p is =
-    let n = place_new base all k p is in record { access = n.access; is = n.is; place = n.place }
+place_new : (base real : ℕ) (all : List Access) (k : ℕ) (p : AccessPlace)
+    → slice_get (map (new_access base real) (map (λ (x : Access). x.tensor) all)) k ≡ Some p → IsNew base real all k p
+place_new base real [] k p is = absurd (cc)
+place_new base real (x ∷ all) zero p is =
+    record { access = x; is = refl; place = sym (some_same (new_access base real x.tensor) p is) }
+place_new base real (x ∷ all) (suc k) p is =
+    let n = place_new base real all k p is in record { access = n.access; is = n.is; place = n.place }
 
 pub at_top : (a : Arithmetic) (k : AppendedSink) (s : Statement) (formats : List (List FormatLevel)) (store : Store)
-    → IsReadStore s formats store → (base : ℕ) (places : Places) → AreAtBase s base places → AreFrom (behind k) places
+    → IsReadStore s formats store → (base : ℕ) (places : Places) → AreAtBase s base places → AreOutside 0 (behind k) places
     → (st : State) → IsGiven a.zero store st.arrays → ChildLeft base (Some (one 0)) st → appended_sink.holds k a store.ranges [] st
     → IsAtTop a k s formats store places st
 at_top a k s formats store r base places at from st given left held = record {
   stands = arrays_stand s formats store r a.zero st.arrays given places.accesses (λ j p is.
-      let n = new j p is in (n.access, n.is, ap (λ (q : AccessPlace). q.tensor) n.place));
+      let n = new j p is in
+      (n.access, n.is, ap (λ (q : AccessPlace). q.tensor) n.place, ap (λ (q : AccessPlace). q.is_sum) n.place));
   keeps = record {
     points = λ v h. absurd (cc);
     cursors = λ j p is.
@@ -95,5 +96,5 @@ at_top a k s formats store r base places at from st given left held = record {
   held = held;
 }
   where
-    new : (j : ℕ) (p : AccessPlace) → slice_get places.accesses j ≡ Some p → IsNew base s.accesses j p
-    new j p is = place_new base s.accesses j p (ap (λ ps. slice_get ps j) (sym at) ∙ is)
+    new : (j : ℕ) (p : AccessPlace) → slice_get places.accesses j ≡ Some p → IsNew base (first_summed s) s.accesses j p
+    new j p is = place_new base (first_summed s) s.accesses j p (ap (λ ps. slice_get ps j) (sym at) ∙ is)

@@ -1,5 +1,5 @@
--- When a kernel is right whose result is appended to: rows whose sums are those of the loops' rows are appended in the order of the result's
--- levels, as they come or out of workspaces, and behind the loops each level's last parent is given its positions.
+-- When a kernel is right whose result is appended to: rows whose sums are those of the loops' rows are appended in the order of the
+-- result's levels, as they come or out of workspaces, and behind the loops each level's last parent is given its positions.
 use Rattle.std.specs.Prelude.{◌≡◌, ℕ, ◌+◌, ◌*◌, ◌≤◌, false, List, [], ◌++◌, length, Some, slice_get}
 use Rattle.std.specs.List.{list_any}
 use Rattle.numbers.specs.Arithmetic.{Arithmetic, Laws}
@@ -17,7 +17,7 @@ use Rattle.tensor_map.specs.Entries.{Entry}
 use Rattle.format_spec.specs.declared.format.FormatLevel.{FormatLevel}
 use Rattle.format_spec.specs.Formats.{letters_of}
 use Rattle.index_notation.specs.declared.syntax.Statement.{Statement}
-use Rattle.iteration_graph.specs.Edges.{format_of, HasFormat}
+use Rattle.iteration_graph.specs.Edges.{format_of}
 use Rattle.lists.specs.Each.{Each}
 use Rattle.expr_terms.specs.ValueLaws.{HasWords}
 use Rattle.concrete_notation.specs.declared.concrete.Concrete.{Concrete}
@@ -37,11 +37,11 @@ use Rattle.term_code.specs.declared.places.Places.{Places}
 use Rattle.term_code.specs.Places.{Keeps, StartsAt}
 use Rattle.term_code.specs.WorkspaceSinks.{HoldsRows}
 use Rattle.kernel_correctness.specs.Kernels.{Ends, IsRightOutcome}
-use Rattle.kernel_correctness.specs.Stores.{Store, IsGiven, IsStoreOf, told_by}
-use Rattle.operand_arrays.specs.Apart.{AreFrom}
+use Rattle.kernel_correctness.specs.Stores.{Store, IsFlat, IsGiven, IsStoreOf, told_by}
+use Rattle.operand_arrays.specs.Apart.{AreOutside}
 use Rattle.operand_arrays.specs.Operands.{stored_in, IsOfOperands}
 use Rattle.dense_results.specs.Kernels.{AreAtBase}
-use Rattle.dense_results.specs.Operands.{IsReadStore, ArrayStands, operands_in}
+use Rattle.dense_results.specs.Operands.{AreFormatted, IsReadStore, ArrayStands, operands_in}
 use Rattle.sparse_results.specs.Keys.{HasOrderedResult}
 use Rattle.sparse_results.specs.Tables.{IsRow}
 use Rattle.appended_results.specs.Begins.{BeginsFirst}
@@ -50,10 +50,11 @@ use Rattle.appended_results.specs.Heads.{IsHead}
 use Rattle.appended_results.specs.declared.sink.AppendedSink.{AppendedSink}
 use Rattle.appended_results.specs.Sink.{appended_sink, letters_in}
 
--- a statement with a format for each tensor, that of its result not dense throughout and of levels that have an order
+-- a statement with a format for each tensor that stands for no sum, that of its result not dense throughout and of levels with an order
 pub record IsForAppended (s : Statement) (formats : List (List FormatLevel)) : Type 0 where
   pub ordered : HasOrderedResult s formats
-  pub read : Each (HasFormat formats) s.accesses
+  pub flat : IsFlat s formats
+  pub read : AreFormatted s formats
   pub sorted : list_any is_unordered (result_levels s formats) ≡ false
 
 -- a statement in concrete notation without workspaces and with no two loops over one variable side by side, and loops that are its own and
@@ -81,7 +82,7 @@ pub record IsAtTop (a : Arithmetic) (k : AppendedSink) (s : Statement) (formats 
     (places : Places) (st : State) : Type 0 where
   pub stands : ArrayStands s formats store places.accesses st.arrays
   pub keeps : Keeps places [] start st
-  pub from : AreFrom (behind k) places
+  pub from : AreOutside 0 (behind k) places
   pub kept : (b : Arr) → IsOfOperands b → appended_sink.kept k b
   pub held : appended_sink.holds k a store.ranges [] st
 
@@ -93,10 +94,10 @@ pub record AddsFromTop (a : Arithmetic) (k : AppendedSink) (s : Statement) (form
   pub most : Store → LoopKind → ℕ
   pub appends : (c : Setting) → c.arithmetic ≡ a → (store : Store) → IsReadStore s formats store
       → TakesAll appended_sink k store.ranges []
-      (rows_to a s formats (told_by a store) (stored_in (operands_in s store)) keys loops)
+      (rows_to a s formats (told_by a s store) (stored_in (operands_in s store)) keys loops)
       → (st : State) → IsAtTop a k s formats store places st → HasLists list past st
       → Adds (beside_lists appended_sink list past) k c store.ranges code free (most store) []
-      (rows_to a s formats (told_by a store) (stored_in (operands_in s store)) keys loops) st
+      (rows_to a s formats (told_by a s store) (stored_in (operands_in s store)) keys loops) st
 
 -- the workspaces of a kernel, which have these numbers of keys, have no rows
 abbrev pub HaveNoRows : List ℕ → State → Type 0
@@ -111,7 +112,7 @@ pub record HasAppended (a : Arithmetic) (k : AppendedSink) (ranges : List ℕ) (
 -- a growth that a kernel may be refused on a store, of such a place and to so many
 pub record MayBeRefused (a : Arithmetic) (s : Statement) (store : Store) (Allowed : Store → Place → ℕ → Type 0) (b : Arr) (count : ℕ)
     : Type 0 where
-  pub right : IsRightOutcome a s (told_by a store) store (TooLong (place_of (length store.format) b) count)
+  pub right : IsRightOutcome a s (told_by a s store) store (TooLong (place_of (length store.format) b) count)
   pub allowed : Allowed store (place_of (length store.format) b) count
 
 -- From the top the code appends rows that have the sums of those that the loops add to these keys, whatever the store; the kernel's
@@ -123,7 +124,7 @@ pub record AppendsFromTop (a : Arithmetic) (k : AppendedSink) (s : Statement) (f
   pub held : Store → List Entry
   pub each : (store : Store) → IsStoreOf s formats store → Each (IsRow (length store.format)) (held store)
   pub same : (store : Store) → IsStoreOf s formats store → sums_of a (held store)
-      ≡ sums_of a (rows_to a s formats (told_by a store) (stored_in (operands_in s store)) keys loops)
+      ≡ sums_of a (rows_to a s formats (told_by a s store) (stored_in (operands_in s store)) keys loops)
   pub appends : (c : Setting) → c.arithmetic ≡ a → c.workspaces ≡ spaces → (store : Store) → IsStoreOf s formats store
       → (st : State) → IsAtTop a k s formats store places st → HaveNoRows spaces st → HasLists list past st
       → Does c code st (HasAppended a k store.ranges (held store) (most store) st)
@@ -157,12 +158,12 @@ AppendedKernelsAreRight = (a : Arithmetic) → Laws a → (s : Statement) (forma
     → (c : Concrete) (in_order : IsInOrder s formats c) → IsForAppended s formats
     → (loops : LoopCode) → AreAppendedLoops s formats c loops
     → (k : AppendedSink) → IsSinkOf a formats k
-    → (base : ℕ) (places : Places) → AreAtBase s base places → AreFrom (behind k) places → behind k ≤ base
+    → (base : ℕ) (places : Places) → AreAtBase s base places → AreOutside 0 (behind k) places → behind k ≤ base
     → (top begin code end : List KStmt) → StartsAt base top → BeginsFirst (letters_in k) (length k.levels) k.base (length k.levels) begin
     → (list past : ℕ) (spaces : List ℕ) (Allowed : Store → Place → ℕ → Type 0)
     → (appends : AppendsFromTop a k s formats places (left_in_order s in_order.order) loops list past spaces Allowed code)
     → (free : ℕ) → EndsFirst (letters_in k) k.base free (length k.levels) end
     → (kernel : Kernel) → past ≤ kernel.lists → kernel.workspaces ≡ spaces → kernel.body ≡ ((top ++ begin) ++ code) ++ end
     → (store : Store) → IsStoreOf s formats store → (arrays : Arrays) → IsGiven a.zero store arrays
-    → Ends a (length store.format) kernel arrays (λ outcome. IsRightOutcome a s (told_by a store) store outcome
+    → Ends a (length store.format) kernel arrays (λ outcome. IsRightOutcome a s (told_by a s store) store outcome
     × MakesNoMore (appends.most store) outcome × RefusesOnly (Allowed store) outcome)

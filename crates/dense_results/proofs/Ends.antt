@@ -58,7 +58,7 @@ ranges_small ranges (v ∷ vars) small =
     (index_small ranges v greatest_position_count small) (ranges_small ranges vars small)
 
 module _ (a : Arithmetic) (laws : Laws a) (s : Statement) (formats : List (List FormatLevel)) (store : Store)
-    (d : IsDenseStore s formats store) (rows : List Entry) (have : HaveValues a s (told_by a store) rows)
+    (d : IsDenseStore s formats store) (rows : List Entry) (have : HaveValues a s (told_by a s store) rows)
     (arrays : Arrays) (h : HoldsSums (modes_of store.format) a (left_ranges s store) rows arrays) where
   abbrev format : List FormatLevel
   format = store.format
@@ -122,7 +122,7 @@ module _ (a : Arithmetic) (laws : Laws a) (s : Statement) (formats : List (List 
       ap (slice_index h.words) (sym (place_same s formats store d coords))
       ∙ h.each coords (to_below (left_ranges s store) coords below)
 
-  row_there : (coords : List ℕ) → IsInSupport s (told_by a store) coords → (i : ℕ) × HasRow format table coords i
+  row_there : (coords : List ℕ) → IsInSupport s (told_by a s store) coords → (i : ℕ) × HasRow format table coords i
   row_there coords support =
       let below = inside coords support.0 in
       let small : at coords < product sizes = position_below sizes (in_level_order format coords) below in
@@ -139,7 +139,7 @@ module _ (a : Arithmetic) (laws : Laws a) (s : Statement) (formats : List (List 
         ),
       )
 
-  no_other : (i : ℕ) → i < length numbers → (coords : List ℕ) × IsInSupport s (told_by a store) coords × HasRow format table coords i
+  no_other : (i : ℕ) → i < length numbers → (coords : List ℕ) × IsInSupport s (told_by a s store) coords × HasRow format table coords i
   no_other i l =
       let p = all_pass is_named 0 (product sizes) i l in
       let r = named_listed rows (slice_index numbers i) p.is in
@@ -153,8 +153,8 @@ module _ (a : Arithmetic) (laws : Laws a) (s : Statement) (formats : List (List 
         ),
       )
 
-  row_value : (i : ℕ) (coords : List ℕ) → IsInSupport s (told_by a store) coords → HasRow format table coords i
-      → table.values i ≡ statement_value a s (told_by a store).values (told_by a store).ranges coords
+  row_value : (i : ℕ) (coords : List ℕ) → IsInSupport s (told_by a s store) coords → HasRow format table coords i
+      → table.values i ≡ statement_value a s (told_by a s store).values (told_by a s store).ranges coords
   row_value i coords support row =
       let b = (all_pass is_named 0 (product sizes) i row.0).below in
       let small : slice_index numbers i < product sizes = omega (arith, b) in
@@ -163,7 +163,7 @@ module _ (a : Arithmetic) (laws : Laws a) (s : Statement) (formats : List (List 
       ∙ ap (position sizes) (sym (row_coords a.zero format store.ranges h.words is_named d.is.format d.dense i row.0) ∙ row.1) in
       ap (slice_index h.words) same ∙ word_at coords support.0 ∙ have.values coords support.0
 
-  is_named_result : IsNamedResult a s (told_by a store) format table
+  is_named_result : IsNamedResult a s (told_by a s store) format table
   is_named_result = record { named = row_there; none_else = no_other; values = row_value }
 
   -- at a position that no row has the value is zero
@@ -180,7 +180,7 @@ module _ (a : Arithmetic) (laws : Laws a) (s : Statement) (formats : List (List 
       clash : (b : Bool) → b ≡ true → b ≡ false → ⊥
       clash b g e = cc
 
-  leaves : LeavesResult a s (told_by a store) store arrays
+  leaves : LeavesResult a s (told_by a s store) store arrays
   leaves =
       let many : length h.words ≡ product sizes = h.long ∙ ap product (sizes_same s formats store d) in
       record {

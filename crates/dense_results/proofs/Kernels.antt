@@ -1,6 +1,6 @@
 -- Kernels of code that adds the rows of a statement's loops to a dense result are right.
 use Rattle.std.specs.Prelude.{◌≡◌, ℕ, ◌≤◌, zero, suc, ◌<◌, ◌==◌, false, List, [], ◌∷◌, ◌++◌, length, map, Some, slice_get, refl}
-use Rattle.std.proofs.Common.{◌∙◌, sym, ap, subst, arith}
+use Rattle.std.proofs.Common.{◌∙◌, sym, ap, subst, arith, inr}
 use Rattle.std.proofs.lemmas.Bool.Decides.{nat_tests}
 use Rattle.numbers.specs.Arithmetic.{Arithmetic, Laws}
 use Rattle.kernel_code.specs.declared.syntax.Arr.{Arr}
@@ -47,7 +47,7 @@ use Rattle.result_targets.specs.Beside.{beside_lists}
 use Rattle.result_targets.specs.Sinks.{Sink}
 use Rattle.result_targets.proofs.Scratch.{lists_kept, lists_start}
 use Rattle.dense_results.specs.Kernels.{AreAtBase, StartsAreTops, AddsFromTop, IsForDense, DenseKernelsAreRight}
-use Rattle.dense_results.specs.Operands.{IsReadStore, operands_in}
+use Rattle.dense_results.specs.Operands.{IsReadStore, first_summed, operands_in}
 use Rattle.dense_results.specs.Results.{IsDenseStore, left_ranges}
 use Rattle.dense_results.proofs.Ends.{sums_are_results}
 use Rattle.dense_results.proofs.Operands.{arrays_stand, told}
@@ -71,49 +71,50 @@ operands_kept (ListCoordinates n) h = absurd h
 operands_kept (ListPositions n) h = absurd h
 
 -- the place of each access, before all loops
-record IsNew (base : ℕ) (all : List Access) (k : ℕ) (p : AccessPlace) : Type 0 where
+record IsNew (base real : ℕ) (all : List Access) (k : ℕ) (p : AccessPlace) : Type 0 where
   access : Access
   is : slice_get all k ≡ Some access
-  place : p ≡ new_access base access.tensor
+  place : p ≡ new_access base real access.tensor
 
 some_same : (p q : AccessPlace) → Some p ≡ Some q → p ≡ q
 some_same p q h = cc
 
-place_new : (base : ℕ) (all : List Access) (k : ℕ) (p : AccessPlace)
-    → slice_get (map (new_access base) (map (λ (x : Access). x.tensor) all)) k ≡ Some p → IsNew base all k p
-place_new base [] k p is = absurd (cc)
-place_new base (x ∷ all) zero p is =
-    record { access = x; is = refl; place = sym (some_same (new_access base x.tensor) p is) }
-place_new base (x ∷ all) (suc k) p is =
-    let n = place_new base all k p is in record { access = n.access; is = n.is; place = n.place }
+place_new : (base real : ℕ) (all : List Access) (k : ℕ) (p : AccessPlace)
+    → slice_get (map (new_access base real) (map (λ (x : Access). x.tensor) all)) k ≡ Some p → IsNew base real all k p
+place_new base real [] k p is = absurd (cc)
+place_new base real (x ∷ all) zero p is =
+    record { access = x; is = refl; place = sym (some_same (new_access base real x.tensor) p is) }
+place_new base real (x ∷ all) (suc k) p is =
+    let n = place_new base real all k p is in record { access = n.access; is = n.is; place = n.place }
 
 pub starts_are_tops : StartsAreTops
 starts_are_tops a k s formats store d r modes base places at st given left = record {
   stands = arrays_stand s formats store r a.zero st.arrays given places.accesses (λ j p is.
-      let n = new j p is in (n.access, n.is, ap (λ (q : AccessPlace). q.tensor) n.place));
+      let n = new j p is in
+      (n.access, n.is, ap (λ (q : AccessPlace). q.tensor) n.place, ap (λ (q : AccessPlace). q.is_sum) n.place));
   keeps = record {
     points = λ v h. absurd (cc);
     cursors = λ j p is.
         let n = new j p is in
         subst (λ b. ChildLeft b (Some (one 0)) st) (sym (ap (λ (q : AccessPlace). q.cursor) n.place)) left;
   };
-  from = record { variables = λ j d h. omega arith; accesses = λ j p is. omega arith };
+  from = record { variables = λ j d h. inr (omega arith); accesses = λ j p is. inr (omega arith) };
   none = λ y no. absurd no;
   kept = operands_kept;
   held = subst (λ ms. HoldsSums ms a (left_ranges s store) [] st.arrays) (sym modes)
       (starts_without_rows a s formats store d st.arrays given);
 }
   where
-    new : (j : ℕ) (p : AccessPlace) → slice_get places.accesses j ≡ Some p → IsNew base s.accesses j p
-    new j p is = place_new base s.accesses j p (ap (λ ps. slice_get ps j) (sym at) ∙ is)
+    new : (j : ℕ) (p : AccessPlace) → slice_get places.accesses j ≡ Some p → IsNew base (first_summed s) s.accesses j p
+    new j p is = place_new base (first_summed s) s.accesses j p (ap (λ ps. slice_get ps j) (sym at) ∙ is)
 
 -- a run that ends as told is right where its end is, and where no growth is refused
 right_told : (a : Arithmetic) (s : Statement) (store : Store) (order : ℕ) (P : State → Type 0) (R : Refusal)
-    → ((t : State) → P t → LeavesResult a s (told_by a store) store t.arrays)
+    → ((t : State) → P t → LeavesResult a s (told_by a s store) store t.arrays)
     → ((t : LoopKind → ℕ) (b : Arr) (count : ℕ) → R t b count → ⊥)
-    → (o : KernelOutcome) → ToldOf order P R o → IsRightOutcome a s (told_by a store) store o
+    → (o : KernelOutcome) → ToldOf order P R o → IsRightOutcome a s (told_by a s store) store o
 right_told a s store order P R leaves never (Finished arrays turns) h =
-    subst (LeavesResult a s (told_by a store) store) h.2 (leaves h.0 h.1)
+    subst (LeavesResult a s (told_by a s store) store) h.2 (leaves h.0 h.1)
 right_told a s store order P R leaves never (GotStuck statement) h = absurd h
 right_told a s store order P R leaves never (TooLong place count) h = absurd (never h.0 h.1.0 count h.1.1)
 right_told a s store order P R leaves never NotFinished h = absurd h
@@ -125,19 +126,19 @@ module _ (a : Arithmetic) (laws : Laws a) (s : Statement) (formats : List (List 
   dense_store = record { named = f.named; left = f.left; dense = subst AreAllDense (sym is.format_is) f.dense; is = is }
 
   read_store : IsReadStore s formats store
-  read_store = record { numbered = f.numbered; named = f.named; read = f.read; is = is }
+  read_store = record { numbered = f.numbered; named = f.named; flat = f.flat; read = f.read; is = is }
 
   abbrev rows : List Entry
-  rows = rows_to a s formats (told_by a store) (stored_in (operands_in s store)) s.left.vars loops
+  rows = rows_to a s formats (told_by a s store) (stored_in (operands_in s store)) s.left.vars loops
 
-  have_values : HaveValues a s (told_by a store) rows
+  have_values : HaveValues a s (told_by a s store) rows
   have_values =
       let t = told s formats store read_store a laws in
-      (are_right s f.numbered formats c in_order f.named loops adds).added a laws (told_by a store) (stored_in (operands_in s store)) t.held
-      t.elsewhere
+      (are_right s f.numbered formats c in_order f.named loops adds).added a laws (told_by a s store) (stored_in (operands_in s store))
+      t.held t.elsewhere
 
   leaves : (arrays : Arrays) → HoldsSums (modes_of store.format) a (left_ranges s store) rows arrays
-      → LeavesResult a s (told_by a store) store arrays
+      → LeavesResult a s (told_by a s store) store arrays
   leaves arrays h = sums_are_results a laws s formats store dense_store rows have_values arrays h
 
   -- from the start of a run, behind code that puts each access at its top, the rows are added
@@ -178,7 +179,7 @@ module _ (a : Arithmetic) (laws : Laws a) (s : Statement) (formats : List (List 
         (λ turns b count r. r.1)
 
     ends : kernel.body ≡ top ++ code
-        → EndsSo a (length store.format) kernel arrays (IsRightOutcome a s (told_by a store) store)
+        → EndsSo a (length store.format) kernel arrays (IsRightOutcome a s (told_by a s store) store)
     ends body =
         let e = ends_as_code_does a (length store.format) kernel arrays HoldsRows Never
         (subst (λ (b : List KStmt). Does setting b begin HoldsRows Never) (sym body)

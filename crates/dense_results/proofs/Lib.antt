@@ -9,4 +9,5 @@ pub mod Pairs
 pub mod Positions
 pub mod Rows
 pub mod Starts
+pub mod SumAccesses
 pub mod Tables

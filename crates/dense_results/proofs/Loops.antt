@@ -1,5 +1,5 @@
 -- What is so of loops by the nests of their terms.
-use Rattle.std.specs.Prelude.{◌≡◌, ℕ, zero, suc, ◌<◌, Bool, true, false, ◌||◌, nat_eq, List, [], ◌∷◌, ◌++◌, length, map, All, refl}
+use Rattle.std.specs.Prelude.{◌≡◌, ℕ, zero, suc, ◌+◌, ◌<◌, Bool, true, false, ◌||◌, nat_eq, List, [], ◌∷◌, ◌++◌, length, map, All, refl}
 use Rattle.std.specs.Prelude.{slice_index_or}
 use Rattle.std.specs.List.Sorted.{IsPermutation}
 use Rattle.std.proofs.Common.{◌∙◌, sym, ap, subst, arith}
@@ -8,7 +8,8 @@ use Rattle.std.proofs.lemmas.List.Sorted.{All-permutation}
 use Rattle.lists.specs.Each.{Each}
 use Rattle.lists.proofs.Each.{each_append}
 use Rattle.format_spec.specs.declared.format.FormatLevel.{FormatLevel}
-use Rattle.index_notation.specs.Statement.{IsNumbered}
+use Rattle.index_notation.specs.Statement.{AreSums, IsNumbered}
+use Rattle.index_notation.specs.declared.syntax.NestedSum.{NestedSum}
 use Rattle.index_notation.specs.declared.operator.Operator.{Operator}
 use Rattle.index_notation.specs.declared.operator.Operator.TheVariants as op
 use Rattle.index_notation.specs.declared.syntax.Expr.{Expr, Num, Access as AccessOf, Binary', Neg', Row_of-Expr, end_of-Expr, more_of-Expr}
@@ -24,8 +25,12 @@ use Rattle.concrete_notation.specs.Nests.{Nest, inside, nests, nest_of, loops_of
 use Rattle.concrete_notation.proofs.Around.{left_below, own_below, loops_contain}
 use Rattle.concrete_notation.proofs.Orders.{is_order_of}
 use Rattle.concrete_notation.proofs.Trees.{nests_forall, nests_both}
-use Rattle.loop_code.specs.declared.loops.LoopCode.{LoopCode, Add, Both', Loop', Row_of-LoopCode, end_of-LoopCode, more_of-LoopCode}
+use Rattle.loop_code.specs.declared.loops.LoopCode.{LoopCode, Add, Both', Loop', Sum', Row_of-LoopCode, end_of-LoopCode}
+use Rattle.loop_code.specs.declared.loops.LoopCode.{more_of-LoopCode}
+use Rattle.loop_code.specs.Parts.{given}
 use Rattle.lowering.specs.Lowered.{IsInOrder, concrete_of, concrete_in, plain}
+use Rattle.lowering.specs.Shapes.{HasStarts, HasStarts_in}
+use Rattle.lowering.specs.Sums.{HasSums, first_sum, inside_of, no_sum, sum_at, sum_tree}
 use Rattle.lowering.proofs.RightLoops.{same_nests}
 use Rattle.operand_arrays.specs.Terms.{EachTerm, EachTerm_in, EachVariable, EachVariable_in, IsMeant, TargetIsBound, TargetIsBound_in}
 use Rattle.dense_results.specs.Loops.{GoThrough, LoweredLoopsGoThrough}
@@ -96,47 +101,72 @@ mutual
         is = nests_both (concrete_in f) (concrete_in g) ∙ ap (λ ns. ns ++ nests (concrete_in g)) n.is;
       }
   has_nest (Add t) = record { first = record { loops = []; term = t }; others = []; is = refl }
+  has_nest (Sum' k p inside q body) = has_nest_in body
 
   has_nest_in : {m : _} (row : Row_of-LoopCode m) → HasNest (nests (concrete_in row))
   has_nest_in end_of-LoopCode = record { first = record { loops = []; term = plain_term (Num 0) }; others = []; is = refl }
   has_nest_in (more_of-LoopCode c rest) = has_nest c
 
-mutual
-  -- what is true of the term of each nest
-  terms_of : (P : Term → Type 0) (c : LoopCode) → Each (λ (n : Nest). P n.term) (nests (concrete_of c)) → EachTerm P c
-  terms_of P (Loop' v seeks p body) h = terms_of_in P body (in_loop (λ (n : Nest). P n.term) v (concrete_in body) h)
-  terms_of P (Both' p f q g) h = (
-    terms_of_in P f (in_first (λ (n : Nest). P n.term) (concrete_in f) (concrete_in g) h),
-    terms_of_in P g (in_second (λ (n : Nest). P n.term) (concrete_in f) (concrete_in g) h),
-  )
-  terms_of P (Add t) h = h.0
+-- the nest of what is summed, which is one loop
+sum_nest : (P : Nest → Type 0) (s : Statement) (n : ℕ) (c : Concrete) → c ≡ sum_tree s n
+    → P (record { loops = (sum_at s n).var ∷ []; term = plain_term (sum_at s n).inside }) → Each P (nests c)
+sum_nest P s n c is h =
+    subst (λ d. Each P (nests d)) (sym is) (subst (Each P) (sym (nests_forall (sum_at s n).var (inside_of s n))) (h, tt))
 
-  terms_of_in : {m : _} (P : Term → Type 0) (row : Row_of-LoopCode m) → Each (λ (n : Nest). P n.term) (nests (concrete_in row))
-      → EachTerm_in P row
-  terms_of_in P end_of-LoopCode h = tt
-  terms_of_in P (more_of-LoopCode c rest) h = terms_of P c h
-
-mutual
-  -- what is true of each variable of the loops of each nest
-  variables_of : (P : ℕ → Type 0) (c : LoopCode) → Each (λ (n : Nest). Each P n.loops) (nests (concrete_of c)) → EachVariable P c
-  variables_of P (Loop' v seeks p body) h =
-      let n = has_nest_in body in
-      let inner = in_loop (λ (n : Nest). Each P n.loops) v (concrete_in body) h in
-      let one = subst (Each (λ (n : Nest). Each P (v ∷ n.loops))) n.is inner in (
-        one.0.0,
-        variables_of_in P body (each_as (λ (n : Nest). Each P (v ∷ n.loops)) (λ (n : Nest). Each P n.loops)
-            (nests (concrete_in body)) (λ n e. e.1) inner),
+module _ (s : Statement) where
+  module _ (P : Term → Type 0) (sums : (n : ℕ) → n < length s.sums → P (plain_term (sum_at s n).inside)) where
+    mutual
+      -- what is true of the term of each nest, and of what is summed
+      terms_of : (bound : List ℕ) (started : ℕ → Bool) (c : LoopCode) → HasStarts s bound started c
+          → Each (λ (n : Nest). P n.term) (nests (concrete_of c)) → EachTerm P c
+      terms_of bound started (Loop' v seeks p body) starts h =
+          terms_of_in (v ∷ bound) started body starts (in_loop (λ (n : Nest). P n.term) v (concrete_in body) h)
+      terms_of bound started (Both' p f q g) starts h = (
+        terms_of_in bound started f starts.0 (in_first (λ (n : Nest). P n.term) (concrete_in f) (concrete_in g) h),
+        terms_of_in bound started g starts.1 (in_second (λ (n : Nest). P n.term) (concrete_in f) (concrete_in g) h),
       )
-  variables_of P (Both' p f q g) h = (
-    variables_of_in P f (in_first (λ (n : Nest). Each P n.loops) (concrete_in f) (concrete_in g) h),
-    variables_of_in P g (in_second (λ (n : Nest). Each P n.loops) (concrete_in f) (concrete_in g) h),
-  )
-  variables_of P (Add t) h = tt
+      terms_of bound started (Add t) starts h = h.0
+      terms_of bound started (Sum' k p inside q body) starts h = (
+        terms_of_in bound started inside starts.1
+            (sum_nest (λ (n : Nest). P n.term) s starts.0.number (concrete_in inside) starts.0.inside
+            (sums starts.0.number starts.0.below)),
+        terms_of_in bound (given started k true) body starts.2 h,
+      )
 
-  variables_of_in : {m : _} (P : ℕ → Type 0) (row : Row_of-LoopCode m)
-      → Each (λ (n : Nest). Each P n.loops) (nests (concrete_in row)) → EachVariable_in P row
-  variables_of_in P end_of-LoopCode h = tt
-  variables_of_in P (more_of-LoopCode c rest) h = variables_of P c h
+      terms_of_in : {m : _} (bound : List ℕ) (started : ℕ → Bool) (row : Row_of-LoopCode m) → HasStarts_in s bound started row
+          → Each (λ (n : Nest). P n.term) (nests (concrete_in row)) → EachTerm_in P row
+      terms_of_in bound started end_of-LoopCode starts h = tt
+      terms_of_in bound started (more_of-LoopCode c rest) starts h = terms_of bound started c starts h
+
+  module _ (P : ℕ → Type 0) (sums : (n : ℕ) → n < length s.sums → P (sum_at s n).var) where
+    mutual
+      -- what is true of each variable of the loops of each nest, and of those that sums are over
+      variables_of : (bound : List ℕ) (started : ℕ → Bool) (c : LoopCode) → HasStarts s bound started c
+          → Each (λ (n : Nest). Each P n.loops) (nests (concrete_of c)) → EachVariable P c
+      variables_of bound started (Loop' v seeks p body) starts h =
+          let n = has_nest_in body in
+          let inner = in_loop (λ (n : Nest). Each P n.loops) v (concrete_in body) h in
+          let one = subst (Each (λ (n : Nest). Each P (v ∷ n.loops))) n.is inner in (
+            one.0.0,
+            variables_of_in (v ∷ bound) started body starts (each_as (λ (n : Nest). Each P (v ∷ n.loops)) (λ (n : Nest). Each P n.loops)
+                (nests (concrete_in body)) (λ n e. e.1) inner),
+          )
+      variables_of bound started (Both' p f q g) starts h = (
+        variables_of_in bound started f starts.0 (in_first (λ (n : Nest). Each P n.loops) (concrete_in f) (concrete_in g) h),
+        variables_of_in bound started g starts.1 (in_second (λ (n : Nest). Each P n.loops) (concrete_in f) (concrete_in g) h),
+      )
+      variables_of bound started (Add t) starts h = tt
+      variables_of bound started (Sum' k p inside q body) starts h = (
+        variables_of_in bound started inside starts.1
+            (sum_nest (λ (n : Nest). Each P n.loops) s starts.0.number (concrete_in inside) starts.0.inside
+            (sums starts.0.number starts.0.below, tt)),
+        variables_of_in bound (given started k true) body starts.2 h,
+      )
+
+      variables_of_in : {m : _} (bound : List ℕ) (started : ℕ → Bool) (row : Row_of-LoopCode m) → HasStarts_in s bound started row
+          → Each (λ (n : Nest). Each P n.loops) (nests (concrete_in row)) → EachVariable_in P row
+      variables_of_in bound started end_of-LoopCode starts h = tt
+      variables_of_in bound started (more_of-LoopCode c rest) starts h = variables_of bound started c starts h
 
 -- the variables of a target are bound, or those of the loops of a nest
 abbrev Reaches : List ℕ → List ℕ → Nest → Type 0
@@ -166,6 +196,7 @@ mutual
     target_bound_in target bound g (in_second (Reaches target bound) (concrete_in f) (concrete_in g) h),
   )
   target_bound target bound (Add t) h = λ k d l. or_left (contains bound (slice_index_or target k d)) (h.0 k d l)
+  target_bound target bound (Sum' k p inside q body) h = target_bound_in target bound body h
 
   target_bound_in : {m : _} (target bound : List ℕ) (row : Row_of-LoopCode m) → Each (Reaches target bound) (nests (concrete_in row))
       → TargetIsBound_in target bound row
@@ -207,8 +238,23 @@ terms_meant true e h = all_meant (terms e)
 terms_meant false e h =
     each_as IsPlain (IsMeant false) (terms e) (λ t p. record { expr = p.expr; sign = λ n. sym p.sign ∙ n }) (plain_terms e h)
 
-module _ (s : Statement) (numbered : IsNumbered s) (formats : List (List FormatLevel)) (c : Concrete) (in_order : IsInOrder s formats c)
-    (loops : LoopCode) (shape : concrete_of loops ≡ plain c) where
+-- the variable of a sum is one of so many
+sum_below : (vars first : ℕ) (sums : List NestedSum) → AreSums vars first sums → (n : ℕ) → n < length sums
+    → (slice_index_or sums n no_sum).var < vars
+sum_below vars first [] are n l = absurd (omega (arith, l))
+sum_below vars first (sum ∷ sums) are zero l = are.0
+sum_below vars first (sum ∷ sums) are (suc n) l = sum_below vars (first + 1) sums are.2 n (omega (arith, l))
+
+-- what stands inside of each sum has a meaning, as a term
+sum_meant : (b : Bool) (sums : List NestedSum) → Each (λ (sum : NestedSum). HasMeaning b sum.inside) sums → (n : ℕ) → n < length sums
+    → IsMeant b (plain_term (slice_index_or sums n no_sum).inside)
+sum_meant b [] h n l = absurd (omega (arith, l))
+sum_meant b (sum ∷ sums) h zero l = record { expr = h.0; sign = λ e. absurd (cc e) }
+sum_meant b (sum ∷ sums) h (suc n) l = sum_meant b sums h.1 n (omega (arith, l))
+
+module _ (s : Statement) (numbered : IsNumbered s) (formats : List (List FormatLevel)) (sums : HasSums s formats) (c : Concrete)
+    (in_order : IsInOrder s formats c) (loops : LoopCode) (shape : concrete_of loops ≡ plain c)
+    (starts : HasStarts s [] (λ k. false) loops) where
   order : List ℕ
   order = in_order.order
 
@@ -269,15 +315,17 @@ module _ (s : Statement) (numbered : IsNumbered s) (formats : List (List FormatL
 
   go_through : (has_minus : Bool) → GoThrough s has_minus loops
   go_through has_minus = record {
-    variables = variables_of (λ v. v < length s.vars) loops
+    variables = variables_of s (λ v. v < length s.vars) (sum_below (length s.vars) (first_sum s) s.sums sums.numbers) [] (λ k. false) loops
+        starts
         (nests_have (λ (n : Nest). Each (λ v. v < length s.vars) n.loops)
         (each_term (λ t. Each (λ v. v < length s.vars) (loops_of s in_order.order (own_variables s t)))
         (λ t. each_contained (λ v. v < length s.vars) (loops_of s in_order.order (own_variables s t)) (loop_below t)) (terms s.expr)));
     bound = target_bound s.left.vars [] loops
         (nests_have (Reaches s.left.vars []) (each_term (λ t. Reaches s.left.vars [] (nest_of s in_order.order t)) reaches (terms s.expr)));
-    meant = λ h. terms_of (IsMeant has_minus) loops (nests_have (λ (n : Nest). IsMeant has_minus n.term) (terms_meant has_minus s.expr h));
+    meant = λ h insides. terms_of s (IsMeant has_minus) (sum_meant has_minus s.sums insides) [] (λ k. false) loops starts
+        (nests_have (λ (n : Nest). IsMeant has_minus n.term) (terms_meant has_minus s.expr h));
   }
 
 pub lowered_loops_go_through : LoweredLoopsGoThrough
-lowered_loops_go_through s numbered formats c in_order loops shape has_minus =
-    go_through s numbered formats c in_order loops shape has_minus
+lowered_loops_go_through s numbered formats sums c in_order loops shape starts has_minus =
+    go_through s numbered formats sums c in_order loops shape starts has_minus

@@ -1,11 +1,11 @@
 -- What the arrays of a store hold of its operands, and what these tell.
-use Rattle.std.specs.Prelude.{◌≡◌, ◌≢◌, ℕ, zero, suc, ◌+◌, ◌^◌, ◌≤◌, ◌<◌, List, [], ◌∷◌, length, map, drop, All, Option, Some, None}
-use Rattle.std.specs.Prelude.{slice_get, slice_index, slice_index_or, refl}
-use Rattle.std.proofs.Common.{◌∙◌, sym, ap, subst, arith}
+use Rattle.std.specs.Prelude.{◌≡◌, ◌≢◌, ◌⊎◌, ℕ, zero, suc, ◌+◌, ◌-◌, ◌^◌, ◌≤◌, ◌<◌, nat_lt, not, Bool, true, false, List, [], ◌∷◌, length}
+use Rattle.std.specs.Prelude.{map, take, drop, All, Option, Some, None, slice_get, slice_index, slice_index_or, refl}
+use Rattle.std.proofs.Common.{◌∙◌, sym, ap, subst, arith, inl, inr}
+use Rattle.std.proofs.lemmas.Bool.Decides.{nat_tests}
 use Rattle.limits.specs.Limits.{greatest_position_count}
 use Rattle.limits.proofs.Limits.{positions_are_small}
-use Rattle.lists.specs.Each.{Each}
-use Rattle.lists.proofs.Each.{each_get, each_from}
+use Rattle.lists.proofs.Each.{each_get}
 use Rattle.numbers.specs.Arithmetic.{Arithmetic, Laws}
 use Rattle.level_core.specs.declared.span.Span.{Span}
 use Rattle.level_core.specs.Entries.{one}
@@ -14,7 +14,6 @@ use Rattle.level_cursors.specs.Cursors.{no_coordinate}
 use Rattle.kernel_code.specs.declared.syntax.Arr.TheVariants.{Values}
 use Rattle.format_spec.specs.declared.format.FormatLevel.{FormatLevel}
 use Rattle.format_spec.specs.Formats.{letters_of}
-use Rattle.index_notation.specs.Statement.{IsRead}
 use Rattle.index_notation.specs.declared.syntax.Access.{Access}
 use Rattle.index_notation.specs.declared.syntax.Statement.{Statement}
 use Rattle.iteration_graph.specs.Edges.{format_of, HasFormat}
@@ -22,15 +21,20 @@ use Rattle.tensor_storage.specs.Levels.{meaning}
 use Rattle.tensor_storage.specs.Storages.{Storage, IsOpen, storage_of}
 use Rattle.lowering.specs.Held.{AreHeld}
 use Rattle.lowering.specs.Layouts.{levels_of, layout_of}
-use Rattle.lowering.specs.Stored.{levels_stored, values_stored, stored_of, HasStorage}
+use Rattle.lowering.specs.Stored.{entries_at, levels_stored, values_stored, stored_of, word_at, HasStorage, IsToldBy}
+use Rattle.lowering.specs.Sums.{first_sum}
 use Rattle.lowering.proofs.HeldStorages.{storages_held}
 use Rattle.lowering.proofs.Walked.{storages_tell, storages_zero, storages_words}
-use Rattle.kernel_correctness.specs.Stores.{Store, IsOperand, AreOperands, IsHeld, OperandsHeld, IsGiven, level_sizes, operand_of, told_by}
+use Rattle.kernel_correctness.specs.Stores.{Store, IsOperand, AreOperands, IsHeld, OperandsHeld, IsGiven, level_sizes, operand_of}
+use Rattle.kernel_correctness.specs.Stores.{told_alone, told_by}
 use Rattle.kernel_correctness.specs.Stores as stores
+use Rattle.kernel_correctness.proofs.FlatStores.{access_told, flat_sums, path_told, sums_told, value_told, words_told, zero_told}
+use Rattle.workspaces.specs.PresenceLaws.{AreZeroElsewhere}
 use Rattle.term_code.specs.declared.places.AccessPlace.{AccessPlace}
 use Rattle.operand_arrays.specs.Operands.{stored_in, HasRanges}
 use Rattle.dense_results.specs.Operands.{values_at, operands_in, IsReadStore, ArePlacesOf, ArraysStandForOperands}
-use Rattle.dense_results.specs.Operands.{AreTold, OperandsAreTold}
+use Rattle.dense_results.specs.Operands.{AreTold, OperandsAreTold, first_summed}
+use Rattle.dense_results.proofs.SumAccesses.{below_or_not, default_outside, get_taken, place_tells, sum_read}
 
 -- the operand of this number, counted from 0, is one of the tensor behind the first ones
 operand_is : (s : Statement) (formats : List (List FormatLevel)) (ranges : ℕ → ℕ) (operands : List Storage) (first n : ℕ)
@@ -87,20 +91,20 @@ module _ (s : Statement) (formats : List (List FormatLevel)) (store : Store) (r 
     pub operand : IsOperand (format_of formats access.tensor)
         (level_sizes s (slice_index store.ranges) access.tensor (format_of formats access.tensor)) (operand_of store access.tensor)
 
-  is_read : (k : ℕ) (access : Access) → slice_get s.accesses k ≡ Some access → ReadsOperand access
-  is_read k access is = by access.tensor refl
-    where
-      unread : access.tensor ≢ 0
-      unread = each_get (λ (x : Access). x.tensor ≢ 0) s.accesses k access r.named.unread is
+  is_unread : (k : ℕ) (access : Access) → slice_get s.accesses k ≡ Some access → access.tensor ≢ 0
+  is_unread k access is = each_get (λ (x : Access). x.tensor ≢ 0) s.accesses k access r.named.unread is
 
+  is_read : (k : ℕ) (access : Access) → slice_get s.accesses k ≡ Some access → k < first_sum s → ReadsOperand access
+  is_read k access is real = by access.tensor refl
+    where
       small : access.tensor < suc (length store.operands)
       small =
-          let below = (each_get (IsRead (length s.tensors) (length s.vars)) s.accesses k access r.numbered.right is).tensor in
+          let below = access_told s formats r.flat k access is real in
           let many = r.is.operands in
           omega (arith, below, many)
 
       by : (t : ℕ) → access.tensor ≡ t → ReadsOperand access
-      by zero e = absurd (unread e)
+      by zero e = absurd (is_unread k access is e)
       by (suc n) e =
           let inside : n < length store.operands = omega (arith, small, e) in
           let one_more : 1 + n ≡ suc n = omega arith in
@@ -115,13 +119,54 @@ module _ (s : Statement) (formats : List (List FormatLevel)) (store : Store) (r 
                 (operand_is s formats (slice_index store.ranges) store.operands 1 n r.is.operands_keep inside));
           }
 
+  -- an access is one of a tensor, or it reads a sum, of which nothing is stored
+  real_or_sum : (k : ℕ) → (k < first_sum s) ⊎ (first_sum s ≤ k)
+  real_or_sum k = below_or_not k (first_sum s)
+
+  real_by : (k : ℕ) → nat_lt k (first_sum s) ≡ true → k < first_sum s
+  real_by k is = by k (first_sum s) is
+    where
+      by : (k n : ℕ) → nat_lt k n ≡ true → k < n
+      by k n h = grind (arith, nat_tests, h)
+
+  sum_by : (k : ℕ) → nat_lt k (first_sum s) ≡ false → first_sum s ≤ k
+  sum_by k is = by k (first_sum s) is
+    where
+      by : (k n : ℕ) → nat_lt k n ≡ false → n ≤ k
+      by k n h = grind (arith, nat_tests, h)
+
+  nothing_behind : (tensor : ℕ) → first_summed s ≤ tensor → operand_of store tensor ≡ storage_of [] [] []
+  nothing_behind zero h = refl
+  nothing_behind (suc n) h =
+      let many = r.is.operands in default_outside store.operands n (storage_of [] [] []) (omega (arith, h, many))
+
+  no_levels : (k : ℕ) → first_sum s ≤ k → (operands_in s store).levels k ≡ []
+  no_levels k behind = by (slice_get s.accesses k) refl
+    where
+      by : (o : Option Access) → slice_get s.accesses k ≡ o → levels_stored (operand_of store) o ≡ []
+      by None at = refl
+      by (Some access) at =
+          ap (λ (storage : Storage). storage.levels) (nothing_behind access.tensor (sum_read s formats r.flat k access at behind))
+
   letters : (k : ℕ) → k < length s.accesses
       → map meaning.kind ((operands_in s store).levels k) ≡ letters_of (levels_of formats (slice_get s.accesses k))
-  letters k h =
-      let x = got s.accesses k h in
-      let i = is_read k x.0 x.1 in
-      subst (λ o. map meaning.kind (levels_stored (operand_of store) o) ≡ letters_of (levels_of formats o)) (sym x.1)
-      (i.operand.storage.letters ∙ ap letters_of i.operand.format_is)
+  letters k h = by (real_or_sum k)
+    where
+      by : (k < first_sum s) ⊎ (first_sum s ≤ k)
+          → map meaning.kind ((operands_in s store).levels k) ≡ letters_of (levels_of formats (slice_get s.accesses k))
+      by (inl real) =
+          let x = got s.accesses k h in
+          let i = is_read k x.0 x.1 real in
+          subst (λ o. map meaning.kind (levels_stored (operand_of store) o) ≡ letters_of (levels_of formats o)) (sym x.1)
+          (i.operand.storage.letters ∙ ap letters_of i.operand.format_is)
+      by (inr sum) =
+          let n = k - first_sum s in
+          let number : first_sum s + n ≡ k = omega (arith, sum) in
+          let few = (flat_sums s formats r.flat).count in
+          let below : n < length s.sums = omega (arith, h, sum, few) in
+          ap (map meaning.kind) (no_levels k sum)
+          ∙ sym (ap letters_of (subst (λ j. levels_of formats (slice_get s.accesses j) ≡ []) number
+          ((flat_sums s formats r.flat).levels n below)))
 
   module _ (nothing : ℕ) (arrays : Arrays) (given : IsGiven nothing store arrays) where
     held_at : (access : Access) → ReadsOperand access → IsHeld (operand_of store access.tensor) access.tensor arrays
@@ -133,30 +178,37 @@ module _ (s : Statement) (formats : List (List FormatLevel)) (store : Store) (r 
 
     module _ (accesses : List AccessPlace) (are : ArePlacesOf s accesses) where
       held : (k : ℕ) (p : AccessPlace) → slice_get accesses k ≡ Some p → stores.AreHeld ((operands_in s store).levels k) p.tensor 1 arrays
-      held k p is =
-          let x = are k p is in
-          subst (λ o. stores.AreHeld (levels_stored (operand_of store) o) p.tensor 1 arrays) (sym x.1)
-          (subst (λ t. stores.AreHeld (operand_of store x.0.tensor).levels t 1 arrays) (sym x.2)
-          (held_at x.0 (is_read k x.0 x.1)).levels)
+      held k p is = by (real_or_sum k)
+        where
+          by : (k < first_sum s) ⊎ (first_sum s ≤ k) → stores.AreHeld ((operands_in s store).levels k) p.tensor 1 arrays
+          by (inl real) =
+              let x = are k p is in
+              subst (λ o. stores.AreHeld (levels_stored (operand_of store) o) p.tensor 1 arrays) (sym x.1)
+              (subst (λ t. stores.AreHeld (operand_of store x.0.tensor).levels t 1 arrays) (sym x.2)
+              (held_at x.0 (is_read k x.0 x.1 real)).levels)
+          by (inr sum) = subst (λ levels. stores.AreHeld levels p.tensor 1 arrays) (sym (no_levels k sum)) tt
 
-      values : (k : ℕ) (p : AccessPlace) → slice_get accesses k ≡ Some p → arrays (Values p.tensor) ≡ Some ((operands_in s store).words k)
-      values k p is =
+      values : (k : ℕ) (p : AccessPlace) → slice_get accesses k ≡ Some p → nat_lt k (first_sum s) ≡ true
+          → arrays (Values p.tensor) ≡ Some ((operands_in s store).words k)
+      values k p is real =
           let x = are k p is in
-          ap (λ t. arrays (Values t)) x.2 ∙ (held_at x.0 (is_read k x.0 x.1)).values
+          ap (λ t. arrays (Values t)) x.2 ∙ (held_at x.0 (is_read k x.0 x.1 (real_by k real))).values
           ∙ ap (λ o. Some (values_at (operand_of store) o)) (sym x.1)
+
+      sums : (k : ℕ) (p : AccessPlace) → slice_get accesses k ≡ Some p → p.is_sum ≡ not (nat_lt k (first_sum s))
+      sums k p is = let x = are k p is in x.3 ∙ place_tells s formats r.flat k x.0 x.1
 
       operands : (k : ℕ) (p : AccessPlace) → slice_get accesses k ≡ Some p → 0 < p.tensor
       operands k p is =
           let x = are k p is in
-          let i = is_read k x.0 x.1 in
-          let t = i.tensor in
+          let some = is_unread k x.0 x.1 in
           let same = x.2 in
-          omega (arith, t, same)
+          omega (arith, some, same)
 
-  -- before all loops each access may be asked from its top
-  opened : (k : ℕ) (span : Span) → Some (one 0) ≡ Some span
+  -- before all loops each access of a tensor may be asked from its top
+  opened : (k : ℕ) (span : Span) → nat_lt k (first_sum s) ≡ true → Some (one 0) ≡ Some span
       → IsOpen meaning (drop 0 ((operands_in s store).levels k)) (length ((operands_in s store).words k)) span
-  opened k span is =
+  opened k span real is =
       let same : one 0 ≡ span = cc in
       subst (IsOpen meaning ((operands_in s store).levels k) (length ((operands_in s store).words k))) same
       (by (slice_get s.accesses k) refl)
@@ -164,7 +216,7 @@ module _ (s : Statement) (formats : List (List FormatLevel)) (store : Store) (r 
       by : (o : Option Access) → slice_get s.accesses k ≡ o
           → IsOpen meaning (levels_stored (operand_of store) o) (length (values_at (operand_of store) o)) (one 0)
       by None e = (refl, omega arith)
-      by (Some access) e = (is_read k access e).operand.storage.opened
+      by (Some access) e = (is_read k access e (real_by k real)).operand.storage.opened
 
   has_ranges : (nothing : ℕ) (arrays : Arrays) → IsGiven nothing store arrays → HasRanges s (slice_index store.ranges) arrays
   has_ranges nothing arrays given = record {
@@ -174,17 +226,18 @@ module _ (s : Statement) (formats : List (List FormatLevel)) (store : Store) (r 
     small = λ v h. ranges_small (slice_index store.ranges v) (index_most store.ranges v greatest_position_count r.is.small);
   }
 
-  -- the value at a position, or zero
-  word_same : (o : Option Access) (position : ℕ) → slice_index (values_at (operand_of store) o) position
-      ≡ slice_index (values_stored (operand_of store) o) position
-  word_same None zero = refl
-  word_same None (suc p) = refl
-  word_same (Some access) p = refl
+  -- the value at a position, or zero; and of a sum the position
+  word_same : (b : Bool) (o : Option Access) (position : ℕ)
+      → word_at b (values_at (operand_of store) o) position ≡ word_at b (values_stored (operand_of store) o) position
+  word_same true None zero = refl
+  word_same true None (suc p) = refl
+  word_same true (Some access) p = refl
+  word_same false o p = refl
 
   stored_same : stored_in (operands_in s store) ≡ stored_of s (operand_of store)
   stored_same = λ i. record {
     entries = (stored_of s (operand_of store)).entries;
-    word = λ k position. word_same (slice_get s.accesses k) position i;
+    word = λ k position. word_same (nat_lt k (first_sum s)) (slice_get s.accesses k) position i;
   }
 
   -- all values are words
@@ -206,28 +259,63 @@ module _ (s : Statement) (formats : List (List FormatLevel)) (store : Store) (r 
       by None (suc p) = omega arith
       by (Some access) p = words_small access.tensor p
 
-  pub has_storages : (a : Arithmetic) → Each (HasStorage a formats (operand_of store) (told_by a store)) s.accesses
-  has_storages a = each_from (HasStorage a formats (operand_of store) (told_by a store)) s.accesses at
+  pub stored_small : (k position : ℕ) → nat_lt k (first_sum s) ≡ true → (stored_in (operands_in s store)).word k position < 2 ^ 64
+  stored_small k position is =
+      subst (λ b. word_at b ((operands_in s store).words k) position < 2 ^ 64) (sym is) (word_small k position)
+
+  pub sum_plain : (k position : ℕ) → nat_lt k (first_sum s) ≡ false → (stored_in (operands_in s store)).word k position ≡ position
+  sum_plain k position is = ap (λ b. word_at b ((operands_in s store).words k) position) is
+
+  pub none_stored : (k level : ℕ) (span : Span) → nat_lt k (first_sum s) ≡ false
+      → (stored_in (operands_in s store)).entries k level span ≡ []
+  none_stored k level span is = ap (λ levels. entries_at levels level span) (no_levels k (sum_by k is)) ∙ no_entries level
     where
-      at : (k : ℕ) (access : Access) → slice_get s.accesses k ≡ Some access
-          → HasStorage a formats (operand_of store) (told_by a store) access
-      at k access is =
-          let i = is_read k access is in
+      no_entries : (level : ℕ) → entries_at [] level span ≡ []
+      no_entries zero = refl
+      no_entries (suc level) = refl
+
+  pub has_storages : (a : Arithmetic) (k : ℕ) → k < first_sum s
+      → (access : Access) × (slice_get s.accesses k ≡ Some access) × HasStorage a formats (operand_of store) (told_by a s store) access
+  has_storages a k real =
+      let x = got s.accesses k (omega (arith, real)) in
+      let i = is_read k x.0 x.1 real in
+      let below = access_told s formats r.flat k x.0 x.1 real in (
+        x.0,
+        x.1,
+        record {
+          format = i.operand.format_is;
+          order = (each_get (HasFormat formats) (take (first_sum s) s.accesses) k x.0 r.read
+              (get_taken s.accesses (first_sum s) k real ∙ x.1)).order;
+          storage = i.operand.storage;
+          told = λ coords long. kept x.0.tensor coords below
+              (storages_tell a (operand_of store) (slice_index store.ranges) x.0.tensor i.operand.storage coords);
+        },
+      )
+    where
+      -- what is told of a tensor is told beside the sums
+      kept : (tensor : ℕ) (coords : List ℕ) → tensor < first_summed s
+          → IsToldBy a (told_alone a store) (operand_of store tensor) tensor coords
+          → IsToldBy a (told_by a s store) (operand_of store tensor) tensor coords
+      kept tensor coords below h =
+          let paths = path_told a s (told_alone a store) tensor coords below in
+          let values = value_told a s (told_alone a store) tensor coords below in
           record {
-            format = i.operand.format_is;
-            order = (each_get (HasFormat formats) s.accesses k access r.read is).order;
-            storage = i.operand.storage;
-            told = λ coords long. storages_tell a (operand_of store) (slice_index store.ranges) access.tensor i.operand.storage coords;
+            path = λ pos ends. let t = h.path pos ends in (paths ∙ t.0, t.1 ∙ sym values);
+            none = λ no. let t = h.none no in (paths ∙ t.0, values ∙ t.1);
           }
 
   pub told : (a : Arithmetic) → Laws a → AreTold a s formats store
   told a laws = record {
     stored = stored_same;
-    held = subst (λ stored. AreHeld a (layout_of s formats) stored s.accesses (told_by a store)) (sym stored_same)
-        (storages_held a s formats (operand_of store) (told_by a store)
-        (storages_words a laws (operand_of store) (slice_index store.ranges) words_small) (has_storages a));
-    elsewhere = storages_zero a (operand_of store) (slice_index store.ranges);
+    held = subst (λ stored. AreHeld a (layout_of s formats) stored s (told_by a s store)) (sym stored_same)
+        (storages_held a s formats (operand_of store) (told_by a s store)
+        (words_told a laws s (told_alone a store) (storages_words a laws (operand_of store) (slice_index store.ranges) words_small))
+        (sums_told a laws s formats r.flat (told_alone a store) zeros) (has_storages a));
+    elsewhere = zero_told a laws s formats r.flat (told_alone a store) zeros;
   }
+    where
+      zeros : AreZeroElsewhere a (told_alone a store).paths (told_alone a store).values
+      zeros = storages_zero a (operand_of store) (slice_index store.ranges)
 
 pub arrays_stand : ArraysStandForOperands
 arrays_stand s formats store r nothing arrays given accesses are = record {
@@ -235,6 +323,9 @@ arrays_stand s formats store r nothing arrays given accesses are = record {
     letters = letters s formats store r;
     held = held s formats store r nothing arrays given accesses are;
     values = values s formats store r nothing arrays given accesses are;
+    stored = λ k. refl;
+    none = λ k is. no_levels s formats store r k (sum_by s formats store r k is);
+    sums = sums s formats store r nothing arrays given accesses are;
   };
   operands = operands s formats store r nothing arrays given accesses are;
   opened = opened s formats store r;

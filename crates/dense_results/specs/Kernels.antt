@@ -14,7 +14,6 @@ use Rattle.index_notation.specs.Statement.{IsNumbered, IsWellNamed}
 use Rattle.index_notation.specs.declared.syntax.Access.{Access}
 use Rattle.index_notation.specs.declared.syntax.Statement.{Statement}
 use Rattle.iteration_graph.specs.Edges.{format_of, HasFormat}
-use Rattle.lists.specs.Each.{Each}
 use Rattle.concrete_notation.specs.declared.concrete.Concrete.{Concrete}
 use Rattle.concrete_notation.specs.Workspaces.{AreAllDense}
 use Rattle.result_targets.specs.Beside.{beside_lists}
@@ -29,15 +28,15 @@ use Rattle.term_code.specs.declared.places.Places.{Places}
 use Rattle.term_code.specs.DenseSinks.{dense_sink}
 use Rattle.term_code.specs.Places.{Keeps, StartsAt, new_access}
 use Rattle.kernel_correctness.specs.Kernels.{IsRightKernel}
-use Rattle.kernel_correctness.specs.Stores.{Store, IsGiven, told_by}
-use Rattle.operand_arrays.specs.Apart.{AreFrom}
+use Rattle.kernel_correctness.specs.Stores.{Store, IsFlat, IsGiven, told_by}
+use Rattle.operand_arrays.specs.Apart.{AreOutside}
 use Rattle.operand_arrays.specs.Operands.{stored_in, IsOfOperands}
-use Rattle.dense_results.specs.Operands.{IsReadStore, ArrayStands, operands_in}
+use Rattle.dense_results.specs.Operands.{AreFormatted, IsReadStore, ArrayStands, first_summed, operands_in}
 use Rattle.dense_results.specs.Results.{IsDenseStore, left_ranges}
 
 -- before all loops: each access is at the variables from base on
 abbrev pub AreAtBase : Statement → ℕ → Places → Type 0
-AreAtBase s base places = places.accesses ≡ map (new_access base) (map (λ (x : Access). x.tensor) s.accesses)
+AreAtBase s base places = places.accesses ≡ map (new_access base (first_summed s)) (map (λ (x : Access). x.tensor) s.accesses)
 
 -- a state at the top of loops that add to a dense result: the arrays are those of a store, each access is at its one parent, and no
 -- row is added yet
@@ -45,7 +44,7 @@ pub record IsAtTop (a : Arithmetic) (k : DenseSink) (s : Statement) (formats : L
     (st : State) : Type 0 where
   pub stands : ArrayStands s formats store places.accesses st.arrays
   pub keeps : Keeps places [] start st
-  pub from : AreFrom 0 places
+  pub from : AreOutside 0 0 places
   pub none : (y : ℕ) → dense_sink.mine k y → y < 0
   pub kept : (b : Arr) → IsOfOperands b → dense_sink.kept k b
   pub held : dense_sink.holds k a (left_ranges s store) [] st
@@ -65,14 +64,15 @@ pub record AddsFromTop (a : Arithmetic) (k : DenseSink) (s : Statement) (formats
   pub adds : (c : Setting) → c.arithmetic ≡ a → (store : Store) → IsDenseStore s formats store → IsReadStore s formats store
       → (st : State) → IsAtTop a k s formats store places st → HasLists list past st
       → Adds (beside_lists dense_sink list past) k c (left_ranges s store) code free (most store) []
-      (rows_to a s formats (told_by a store) (stored_in (operands_in s store)) s.left.vars loops) st
+      (rows_to a s formats (told_by a s store) (stored_in (operands_in s store)) s.left.vars loops) st
 
--- a statement with a format for each tensor, a dense one for its result
+-- a statement with a format for each tensor that stands for no sum, a dense one for its result
 pub record IsForDense (s : Statement) (formats : List (List FormatLevel)) : Type 0 where
   pub numbered : IsNumbered s
   pub named : IsWellNamed s
   pub left : HasFormat formats s.left
-  pub read : Each (HasFormat formats) s.accesses
+  pub flat : IsFlat s formats
+  pub read : AreFormatted s formats
   pub dense : AreAllDense (format_of formats 0)
 
 -- a kernel of such code is right

@@ -43,6 +43,6 @@ StartsWithoutRows = (a : Arithmetic) (s : Statement) (formats : List (List Forma
 abbrev pub SumsAreResults : Type 0
 SumsAreResults = (a : Arithmetic) → Laws a
     → (s : Statement) (formats : List (List FormatLevel)) (store : Store) → IsDenseStore s formats store
-    → (rows : List Entry) → HaveValues a s (told_by a store) rows
+    → (rows : List Entry) → HaveValues a s (told_by a s store) rows
     → (arrays : Arrays) → HoldsSums (modes_of store.format) a (left_ranges s store) rows arrays
-    → LeavesResult a s (told_by a store) store arrays
+    → LeavesResult a s (told_by a s store) store arrays

@@ -20,4 +20,3 @@ pub mod TermLaws
 pub mod TermSums
 pub mod ValueIn
 pub mod ValueLaws
-pub mod WellNamed

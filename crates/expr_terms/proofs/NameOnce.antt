@@ -6,7 +6,7 @@ use Rattle.index_notation.specs.declared.syntax.Access.{Access}
 use Rattle.index_notation.specs.declared.syntax.Statement.{Statement}
 use Rattle.index_notation.specs.Statement.{IsDistinct}
 use Rattle.expr_terms.specs.declared.names.NameFault.{NameFault}
-use Rattle.expr_terms.specs.declared.names.NameFault.TheVariants.{ResultRead, Arity, RepeatedVariable}
+use Rattle.expr_terms.specs.declared.names.NameFault.TheVariants.{ResultRead, Arity, RepeatedVariable, BadSum}
 use Rattle.expr_terms.specs.Names.{RepeatsFirst, IsFaultless, HasFault, AreFaultless, HasNoNameFault, IsFirstNameFault}
 use Rattle.expr_terms.proofs.NameLaws.{append_none}
 
@@ -59,11 +59,15 @@ fault_once : (left : Access) (earlier : List Access) (a : Access) (f g : NameFau
 fault_once left earlier a (ResultRead t) (ResultRead u) h k = ap ResultRead (h.0 ∙ sym k.0)
 fault_once left earlier a (ResultRead t) (Arity u) h k = absurd (k.1 h.1)
 fault_once left earlier a (ResultRead t) (RepeatedVariable u w) h k = absurd (k.1 h.1)
+fault_once left earlier a (ResultRead t) (BadSum v) h k = absurd k
 fault_once left earlier a (Arity t) (ResultRead u) h k = absurd (h.1 k.1)
 fault_once left earlier a (Arity t) (Arity u) h k = ap Arity (h.0 ∙ sym k.0)
 fault_once left earlier a (Arity t) (RepeatedVariable u w) h k = absurd (h.2 k.2)
+fault_once left earlier a (Arity t) (BadSum v) h k = absurd k
 fault_once left earlier a (RepeatedVariable t v) (ResultRead u) h k = absurd (h.1 k.1)
 fault_once left earlier a (RepeatedVariable t v) (Arity u) h k = absurd (k.2 h.2)
+fault_once left earlier a (RepeatedVariable t v) (BadSum w) h k = absurd k
+fault_once left earlier a (BadSum v) g h k = absurd h
 fault_once left earlier a (RepeatedVariable t v) (RepeatedVariable u w) h k =
     let tensor : t ≡ u = h.0 ∙ sym k.0 in
     let var : v ≡ w = repeats_once a.vars v w h.3 k.3 in
@@ -75,6 +79,7 @@ fault_or_none : {A : Type 0} (left : Access) (earlier : List Access) (a : Access
 fault_or_none left earlier a (ResultRead t) h k = absurd (h.unread k.1)
 fault_or_none left earlier a (Arity t) h k = absurd (k.2 h.order)
 fault_or_none left earlier a (RepeatedVariable t v) h k = never_again k.3.front v k.3.behind (subst IsDistinct k.3.all h.once) k.3.again
+fault_or_none left earlier a (BadSum v) h k = absurd k
 
 none_at : (left : Access) (e a : List Access) (t : Access) (r : List Access) → AreFaultless left e (a ++ (t ∷ r))
     → IsFaultless left (e ++ a) t

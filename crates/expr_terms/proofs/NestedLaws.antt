@@ -4,7 +4,7 @@ use Rattle.std.specs.Prelude.{filter, refl}
 use Rattle.std.proofs.Common.{◌∙◌, sym, ap, subst, arith, append_assoc, length-append}
 use Rattle.lists.specs.Each.{Each}
 use Rattle.lists.proofs.Each.{each_append}
-use Rattle.index_notation.specs.Grammar.{sum_name}
+use Rattle.index_notation.specs.Numbering.{sum_name}
 use Rattle.index_notation.specs.declared.syntax.Name.{Name}
 use Rattle.index_notation.specs.declared.syntax.Access.{Access}
 use Rattle.index_notation.specs.declared.syntax.NestedSum.{NestedSum}

@@ -62,7 +62,7 @@ this_tensor : (values : ℕ → List ℕ → ℕ) (tensor : ℕ) (one : List ℕ
 this_tensor values tensor one coords = ap (λ b. cond b (one coords) (values tensor coords)) (eq-eqb tensor tensor refl)
 
 module _ (a : Arithmetic) (ranges : ℕ → ℕ) (vars : ℕ) where
-  values_kept : (accesses : List Access) (tensor : ℕ) (sums : List NestedSum) (values : ℕ → List ℕ → ℕ) (other : ℕ) (coords : List ℕ)
+  pub values_kept : (accesses : List Access) (tensor : ℕ) (sums : List NestedSum) (values : ℕ → List ℕ → ℕ) (other : ℕ) (coords : List ℕ)
       → other < tensor → values_with a ranges vars accesses tensor sums values other coords ≡ values other coords
   values_kept accesses tensor [] values other coords below = refl
   values_kept accesses tensor (sum ∷ sums) values other coords below =

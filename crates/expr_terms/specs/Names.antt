@@ -5,7 +5,7 @@ use Rattle.index_notation.specs.declared.syntax.Access.{Access}
 use Rattle.index_notation.specs.declared.syntax.Statement.{Statement}
 use Rattle.index_notation.specs.Statement.{HaveOneOrder, IsDistinct}
 use Rattle.expr_terms.specs.declared.names.NameFault.{NameFault}
-use Rattle.expr_terms.specs.declared.names.NameFault.TheVariants.{ResultRead, Arity, RepeatedVariable}
+use Rattle.expr_terms.specs.declared.names.NameFault.TheVariants.{ResultRead, Arity, RepeatedVariable, BadSum}
 
 -- the number is the first of a list that stands a second time
 pub record RepeatsFirst (numbers : List ℕ) (number : ℕ) : Type 0 where
@@ -29,13 +29,14 @@ pub record IsFaultless (left : Access) (earlier : List Access) (a : Access) : Ty
   pub order : KeepsOrder earlier a
   pub once : IsDistinct a.vars
 
--- the fault of an access behind earlier ones: the first of these that holds
+-- the fault of an access behind earlier ones: the first of these that holds; a nested sum's is none of an access
 abbrev pub HasFault : Access → List Access → Access → NameFault → Type 0
 HasFault left earlier a (ResultRead tensor) = (tensor ≡ a.tensor) × ReadsResult left earlier a
 HasFault left earlier a (Arity tensor) =
     (tensor ≡ a.tensor) × (ReadsResult left earlier a → ⊥) × (KeepsOrder earlier a → ⊥)
 HasFault left earlier a (RepeatedVariable tensor var) =
     (tensor ≡ a.tensor) × (ReadsResult left earlier a → ⊥) × KeepsOrder earlier a × RepeatsFirst a.vars var
+HasFault left earlier a (BadSum var) = ⊥
 
 -- none of these accesses behind earlier ones has a fault
 abbrev pub AreFaultless : Access → List Access → List Access → Type 0

@@ -2,7 +2,7 @@
 -- value at coordinates of these is the sum of what stands inside, over the whole range of its own variable.
 use Rattle.std.specs.Prelude.{ℕ, ◌+◌, nat_eq, not, ◌&&◌, Bool, if◌then◌else◌, List, [], ◌∷◌, ◌++◌, length, filter}
 use Rattle.numbers.specs.Arithmetic.{Arithmetic}
-use Rattle.index_notation.specs.Grammar.{sum_name}
+use Rattle.index_notation.specs.Numbering.{sum_name}
 use Rattle.index_notation.specs.Statement.{numbers_from}
 use Rattle.index_notation.specs.declared.syntax.Access.{Access}
 use Rattle.index_notation.specs.declared.syntax.Name.{Name}
@@ -57,7 +57,8 @@ sum_value a ranges vars accesses values sum coords =
     sum_over a ranges (sum.var ∷ []) (λ p. value_of a values accesses p sum.inside) (point_of (free_in vars accesses sum) coords)
 
 -- the values of tensors, and behind them of sums
-abbrev pub values_with : Arithmetic → (ℕ → ℕ) → ℕ → List Access → ℕ → List NestedSum → (ℕ → List ℕ → ℕ) → ℕ → List ℕ → ℕ
+abbrev pub values_with : Arithmetic → (ℕ → ℕ) → ℕ → List Access → ℕ → List NestedSum → (ℕ → List ℕ → ℕ)
+    → ℕ → List ℕ → ℕ
 values_with a ranges vars accesses tensor [] values = values
 values_with a ranges vars accesses tensor (sum ∷ sums) values =
     values_with a ranges vars (accesses ++ (sum_access vars accesses tensor sum ∷ [])) (tensor + 1) sums

@@ -16,6 +16,9 @@ pub enum NameFault {
     Arity { tensor: usize },
     /// The variable stands twice in the access; of several the one whose second place comes first.
     RepeatedVariable { tensor: usize, var: usize },
+    /// A nested sum's variable stands outside the sum too, on the left side or in an access, or is bound by another sum. Of a
+    /// statement whose accesses have no fault, told by `check_sums` of `nested_sums`.
+    BadSum { var: usize },
 }
 
 /// Whether a number is in a list.

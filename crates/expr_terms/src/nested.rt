@@ -1,6 +1,6 @@
 //! The statement that reads each of its nested sums as a tensor.
 ghost use Rattle.std.specs.Prelude.{◌≡◌, ◌+◌, ◌<◌, ◌^◌, length, IfOk, OnOk};
-ghost use Rattle.index_notation.specs.Grammar.{sum_name as name_of_a_sum};
+ghost use Rattle.index_notation.specs.Numbering.{sum_name as name_of_a_sum};
 ghost use Rattle.index_notation.specs.Statement.{IsNumbered, IsNumberedWithSums, IsWellNamed};
 ghost use Rattle.expr_terms.specs.Nested.{is_free, free_in, sum_access, accesses_with, names_with, flat as flat_of};
 

@@ -1,6 +1,6 @@
 -- The statement of the workload is well formed, and the formats are those of its tensors.
 use denote.Hole.Carrier.{hidden}
-use Rattle.std.specs.Prelude.{ℕ, ◌<◌, true, refl}
+use Rattle.std.specs.Prelude.{ℕ, ◌<◌, ◌≤◌, length, true, refl}
 use Rattle.std.proofs.Common.{arith, lit<, lit≤}
 use Rattle.limits.specs.Limits.{greatest_order, greatest_variables}
 use Rattle.lists.specs.Each.{Each}
@@ -9,6 +9,7 @@ use Rattle.expr_terms.proofs.NestedLaws.{plain_numbered}
 use Rattle.index_notation.specs.Statement.{IsAccess, IsNumbered, IsNumberedWithSums, IsWellNamed, IsDistinct}
 use Rattle.index_notation.specs.declared.syntax.Expr.TheBlock.{hidden-the_row-Expr-0}
 use Rattle.iteration_graph.specs.Edges.{HasFormat}
+use Rattle.nested_sums.specs.Bound.{HasNoBadSum}
 use Rattle.generated_runs.specs.Workloads.{matrix_at, workload_statement, workload_formats}
 
 is_access : (tensor : ℕ) → tensor < 4 → IsAccess 4 2 (matrix_at tensor)
@@ -57,3 +58,12 @@ right_formats = (
   record { tensor = lit< tt; order = refl },
   (record { tensor = lit< tt; order = refl }, (record { tensor = lit< tt; order = refl }, tt)),
 )
+
+-- it has no nested sums, so no bad ones
+pub no_bad_sum : HasNoBadSum workload_statement
+unfolding workload_statement hidden-the_row-Expr-0 hidden
+no_bad_sum = record { left = tt; free = tt; sides = (tt, tt, (tt, tt, tt, tt), tt); inside = tt }
+
+pub few_formats : length workload_formats ≤ length workload_statement.tensors
+unfolding workload_statement workload_formats
+few_formats = lit≤ tt

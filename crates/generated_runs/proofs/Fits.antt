@@ -24,12 +24,16 @@ use Rattle.tensor_storage.specs.Storages.{in_level_order}
 use Rattle.tensor_storage.specs.Tables.{Table}
 use Rattle.kernel_correctness.specs.Kernels.{standing_order}
 use Rattle.kernel_correctness.specs.Results.{IsNamedResult}
-use Rattle.kernel_correctness.specs.Stores.{Store, StartsFew, told_by}
+use Rattle.kernel_correctness.specs.Stores.{Store, StartsFew}
 use Rattle.operand_packing.specs.Operands.{mode_sizes}
 use Rattle.operand_packing.specs.Packed.{FitsLevels, OperandsFit, operand_sizes}
 use Rattle.kernel_runs.specs.declared.fault.RunFault.{RunFault}
 use Rattle.kernel_runs.specs.declared.fault.RunFault.TheVariants.{Range, SizeLimit, Workspace, Memory}
 use Rattle.kernel_runs.specs.Runs.{IsStoreFor, LevelsFit, MayRefuseRun, PairsFit, RefusesNoneThatFit, result_level_sizes}
+use Rattle.concrete_notation.specs.Contributions.{Inputs}
+use Rattle.expr_terms.specs.Nested.{flat}
+use Rattle.kernel_correctness.specs.Stores.{told_alone, told_by}
+use Rattle.generated_runs.proofs.Plain.{flat_workload, looped_workload, told_workload}
 use Rattle.generated_runs.specs.Matrices.{AreMatrices, IsMatrix}
 use Rattle.generated_runs.specs.Refused.{IsForMemory}
 use Rattle.generated_runs.specs.Workloads.{by_rows, workload_statement, workload_formats}
@@ -107,12 +111,12 @@ module _ (a : Arithmetic) (n : ℕ) (first second third : Entries) (few : n ≤ 
 
   -- ---- a store of the operands
   module _ (store : Store) (for : IsStoreFor a workload_statement workload_formats (n ∷ n ∷ []) (first ∷ second ∷ third ∷ []) store) where
-    listed_at_first : (x y : ℕ) → (told_by a store).paths 1 (x ∷ y ∷ []) ≡ true → Listed first.list (x ∷ y ∷ [])
+    listed_at_first : (x y : ℕ) → (told_alone a store).paths 1 (x ∷ y ∷ []) ≡ true → Listed first.list (x ∷ y ∷ [])
     listed_at_first x y path =
         operand_listed a workload_statement workload_formats (n ∷ n ∷ []) (first ∷ second ∷ third ∷ []) store for 0 first refl
         (format_at 0 (omega arith)) x y path
 
-    listed_at_third : (x y : ℕ) → (told_by a store).paths 3 (x ∷ y ∷ []) ≡ true → Listed third.list (x ∷ y ∷ [])
+    listed_at_third : (x y : ℕ) → (told_alone a store).paths 3 (x ∷ y ∷ []) ≡ true → Listed third.list (x ∷ y ∷ [])
     listed_at_third x y path =
         operand_listed a workload_statement workload_formats (n ∷ n ∷ []) (first ∷ second ∷ third ∷ []) store for 2 third refl
         (format_at 2 (omega arith)) x y path
@@ -122,7 +126,7 @@ module _ (a : Arithmetic) (n : ℕ) (first second third : Entries) (few : n ≤ 
     either x y l = (listed_append (x ∷ y ∷ []) first.list third.list).1 l
 
     -- each point of the support is listed in the first operand or in the third
-    support_listed : (coords : List ℕ) → IsInSupport workload_statement (told_by a store) coords
+    support_listed : (coords : List ℕ) → IsInSupport workload_statement (told_alone a store) coords
         → Listed (first.list ++ third.list) (slice_index coords 0 ∷ slice_index coords 1 ∷ [])
     unfolding workload_statement hidden-the_row-Expr-0 hidden
     support_listed [] support = absurd support.0
@@ -133,13 +137,13 @@ module _ (a : Arithmetic) (n : ℕ) (first second third : Entries) (few : n ≤ 
           let row : p.point 0 ≡ x = p.others 0 refl in
           let column : p.point 1 ≡ y = p.others 1 refl in
           let here : p.point 0 ∷ p.point 1 ∷ [] ≡ x ∷ y ∷ [] = cc in
-          either x y (inl (listed_at_first x y (subst (λ cs. (told_by a store).paths 1 cs ≡ true) here (both_true _ _ p.present).0)))
+          either x y (inl (listed_at_first x y (subst (λ cs. (told_alone a store).paths 1 cs ≡ true) here (both_true _ _ p.present).0)))
       | inr more ↦ elim more [
         | inl p ↦
             let row : p.point 0 ≡ x = p.others 0 refl in
             let column : p.point 1 ≡ y = p.others 1 refl in
             let here : p.point 0 ∷ p.point 1 ∷ [] ≡ x ∷ y ∷ [] = cc in
-            either x y (inr (listed_at_third x y (subst (λ cs. (told_by a store).paths 3 cs ≡ true) here p.present)))
+            either x y (inr (listed_at_third x y (subst (λ cs. (told_alone a store).paths 3 cs ≡ true) here p.present)))
         | inr none ↦ absurd none
       ]
     ]
@@ -151,10 +155,13 @@ module _ (a : Arithmetic) (n : ℕ) (first second third : Entries) (few : n ≤ 
         let other = are.2.few in
         omega (arith, long, one, other, few, twice)
 
-    result_fits : (table : Table) → IsNamedResult a workload_statement (told_by a store) store.format table
+    result_fits : (table : Table) → IsNamedResult a (flat workload_statement) (told_by a (flat workload_statement) store) store.format table
         → AreFew (positions_of store.format store.ranges table)
     unfolding workload_formats
-    result_fits table named =
+    result_fits table flat_named =
+        let named : IsNamedResult a workload_statement (told_alone a store) store.format table =
+        subst (λ (told : Inputs). IsNamedResult a workload_statement told store.format table) (told_workload a store)
+        (subst (λ t. IsNamedResult a t (told_by a t store) store.format table) flat_workload flat_named) in
         let format : store.format ≡ by_rows = for.is_store.format_is in
         let rows : (i : ℕ) → i < table.count → Listed (first.list ++ third.list) (table.coords 0 i ∷ table.coords 1 i ∷ []) =
         λ i h.
@@ -165,16 +172,16 @@ module _ (a : Arithmetic) (n : ℕ) (first second third : Entries) (few : n ≤ 
         (subst (λ rs. AreFew (positions_of by_rows rs table)) (sym for.ranges_are)
         (few_positions table n n (first.list ++ third.list) small most rows))
 
-    pairs_fit : pairs workload_statement (standing_order workload_statement) (told_by a store) ≤ greatest_position_count
+    pairs_fit : pairs workload_statement (standing_order workload_statement) (told_alone a store) ≤ greatest_position_count
     unfolding workload_statement hidden-the_row-Expr-0 hidden
     pairs_fit =
-        let paths = (told_by a store).paths in
-        let rows = (told_by a store).ranges 0 in
-        let columns = (told_by a store).ranges 1 in
+        let paths = (told_alone a store).paths in
+        let rows = (told_alone a store).ranges 0 in
+        let columns = (told_alone a store).ranges 1 in
         let products = few_pass rows columns (λ x y. paths 1 (x ∷ y ∷ []) && paths 2 (x ∷ y ∷ [])) first.list
         (λ x y h k is. listed_at_first x y (both_true _ _ is).0) in
         let others = few_pass rows columns (λ x y. paths 3 (x ∷ y ∷ [])) third.list (λ x y h k is. listed_at_third x y is) in
-        let both : pairs workload_statement (standing_order workload_statement) (told_by a store)
+        let both : pairs workload_statement (standing_order workload_statement) (told_alone a store)
         ≡ 0 + count_below rows (λ x. count_below columns (λ y. one_if (paths 1 (x ∷ y ∷ []) && paths 2 (x ∷ y ∷ []))))
         + count_below rows (λ x. count_below columns (λ y. one_if (paths 3 (x ∷ y ∷ [])))) = refl in
         let one = are.0.few in
@@ -204,11 +211,14 @@ levels_fit a n (first ∷ second ∷ third ∷ []) few are = levels a n first se
 -- and so do the pairs
 pub workspace_fits : (a : Arithmetic) (n : ℕ) (operands : List Entries) → n ≤ greatest_workload → AreMatrices n operands
     → PairsFit a workload_statement workload_formats (n ∷ n ∷ []) operands
-workspace_fits a n [] few are sparse store for = absurd are
-workspace_fits a n (first ∷ []) few are sparse store for = absurd are
-workspace_fits a n (first ∷ second ∷ []) few are sparse store for = absurd are
-workspace_fits a n (first ∷ second ∷ third ∷ x ∷ xs) few are sparse store for = absurd are
-workspace_fits a n (first ∷ second ∷ third ∷ []) few are sparse store for = pairs_fit a n first second third few are store for
+workspace_fits a n [] few are sparse store for order is_order = absurd are
+workspace_fits a n (first ∷ []) few are sparse store for order is_order = absurd are
+workspace_fits a n (first ∷ second ∷ []) few are sparse store for order is_order = absurd are
+workspace_fits a n (first ∷ second ∷ third ∷ x ∷ xs) few are sparse store for order is_order = absurd are
+workspace_fits a n (first ∷ second ∷ third ∷ []) few are sparse store for order is_order =
+    subst (λ t. pairs t (standing_order workload_statement) (told_by a t store) ≤ greatest_position_count) (sym (looped_workload a order))
+    (subst (λ told. pairs workload_statement (standing_order workload_statement) told ≤ greatest_position_count)
+    (sym (told_workload a store)) (pairs_fit a n first second third few are store for))
 
 -- so a run of the workload is refused for want of memory alone
 pub refused_for_memory : (a : Arithmetic) (kernel : Kernel) (n : ℕ) (operands : List Entries) → n ≤ greatest_workload

@@ -7,6 +7,7 @@ pub mod Fits
 pub mod Formats
 pub mod Matrices
 pub mod Paths
+pub mod Plain
 pub mod Runnable
 pub mod Segments
 pub mod Totals

@@ -20,7 +20,7 @@ use Rattle.tensor_storage.specs.Levels.{meaning}
 use Rattle.tensor_storage.specs.Storages.{Storage, EndsAt, in_level_order, storage_of}
 use Rattle.lowering.specs.Stored.{IsToldBy, inputs_of}
 use Rattle.lowering.proofs.Walked.{storages_tell}
-use Rattle.kernel_correctness.specs.Stores.{Store, operand_of, told_by}
+use Rattle.kernel_correctness.specs.Stores.{Store, operand_of, told_alone}
 use Rattle.operand_packing.specs.Packed.{AreSummed, IsPackedAt, IsPackedOperand, operand_sizes}
 use Rattle.kernel_runs.specs.Runs.{IsStoreFor}
 use Rattle.generated_runs.specs.Workloads.{by_rows}
@@ -133,7 +133,7 @@ operand_packed a s formats ranges operands store is n entries at format =
 -- what a store tells to be a path of it is listed among the operand's entries
 pub operand_listed : (a : Arithmetic) (s : Statement) (formats : List (List FormatLevel)) (ranges : List ℕ) (operands : List Entries)
     (store : Store) → IsStoreFor a s formats ranges operands store → (n : ℕ) (entries : Entries) → slice_get operands n ≡ Some entries
-    → format_of formats (suc n) ≡ by_rows → (x y : ℕ) → (told_by a store).paths (suc n) (x ∷ y ∷ []) ≡ true
+    → format_of formats (suc n) ≡ by_rows → (x y : ℕ) → (told_alone a store).paths (suc n) (x ∷ y ∷ []) ≡ true
     → Listed entries.list (x ∷ y ∷ [])
 operand_listed a s formats ranges operands store is n entries at format x y path =
     let whole = operand_packed a s formats ranges operands store is n entries at format in

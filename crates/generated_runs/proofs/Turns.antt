@@ -23,11 +23,12 @@ use Rattle.tensor_storage.specs.Children.{child_of}
 use Rattle.tensor_storage.specs.Storages.{Storage, in_level_order}
 use Rattle.lowering.specs.Stored.{entries_at, stored_of, walk}
 use Rattle.statement_costs.specs.Costs.{statement_cost}
-use Rattle.kernel_correctness.specs.Stores.{Store, operand_of}
+use Rattle.kernel_correctness.specs.Stores.{IsStoreOf, Store, operand_of}
 use Rattle.operand_packing.specs.Packed.{IsPackedOperand}
 use Rattle.kernel_runs.specs.Runs.{IsStoreFor, RunsKernel}
 use Rattle.kernel_runs.proofs.Outcomes.{outcome_is}
 use Rattle.taco_compiler.specs.Compiled.{AreFewTurns, IsCompiled, IsOrder}
+use Rattle.generated_runs.proofs.Plain.{flat_workload}
 use Rattle.generated_runs.specs.Workloads.{by_rows, workload_statement, workload_formats, IsComputed}
 use Rattle.generated_runs.proofs.Costs.{cost_most, entries_below}
 use Rattle.generated_runs.proofs.Counting.{each_kept, few_stored}
@@ -117,7 +118,8 @@ module _ (a : Arithmetic) (n : ℕ) (first second third : Entries) (store : Stor
       let within : AreFewTurns workload_statement workload_formats order store (Finished runs.has_run.arrays (count_of turns)) =
       outcome_is a (length store.format) kernel runs.given (AreFewTurns workload_statement workload_formats order store)
       (Finished runs.has_run.arrays (count_of turns))
-      (compiled.few store for.is_store runs.given runs.is_given) (λ none. none) runs.has_run.ends finished in
+      (compiled.few store (subst (λ t. IsStoreOf t workload_formats store) flat_workload for.is_store) runs.given runs.is_given)
+      (λ none. none) runs.has_run.ends finished in
       let merges : turns.merge ≤ statement_cost workload_statement workload_formats order stored (slice_index store.ranges) =
       within.merges in
       let cost = cost_few order is in

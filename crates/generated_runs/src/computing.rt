@@ -1,7 +1,8 @@
 //! The statement of the workload, computed over operands.
-ghost use Rattle.std.specs.Prelude.{◌≡◌, ◌≤◌, ◌∷◌, [], ℕ, List, IfOk, Some};
+ghost use Rattle.std.specs.Prelude.{◌≡◌, ◌≤◌, ◌∷◌, [], IfOk, Some};
 ghost use Rattle.limits.specs.Limits.{greatest_workload};
 ghost use Rattle.numbers.specs.Ring.{ring};
+ghost use Rattle.kernel_correctness.specs.Kernels.{IsRightFor};
 ghost use Rattle.taco_compiler.specs.Compiled.{IsCompiled, IsOrder};
 ghost use Rattle.kernel_runs.specs.Runs.{IsRun};
 ghost use Rattle.generated_runs.specs.Matrices.{AreMatrices};
@@ -28,6 +29,7 @@ fn workload_kernel(
     requires statement { statement.now ≡ workload_statement }
     requires formats { formats.now ≡ workload_formats }
     ensures order { IfOk result (λ compiled. IsOrder workload_statement workload_formats compiled.order) }
+    ensures right { IfOk result (λ compiled. IsRightFor ring workload_statement workload_formats compiled.kernel) }
     ensures kernel { IfOk result (λ compiled. IsCompiled ring workload_statement workload_formats compiled.order compiled.kernel) }
 {
     match compile::<Ring>(alloc, statement, formats) {
@@ -80,7 +82,7 @@ fn run_on(
 ) -> Result<KernelRun, AllocError>
     requires statement { statement.now ≡ workload_statement }
     requires formats { formats.now ≡ workload_formats }
-    requires kernel { (order : List ℕ) × IsCompiled ring workload_statement workload_formats order kernel.now }
+    requires right { IsRightFor ring workload_statement workload_formats kernel.now }
     requires small { size ≤ greatest_workload }
     requires matrices { AreMatrices size operands.entries.items }
     requires untold { operands.bounds.items ≡ [] }

@@ -16,7 +16,8 @@ use Rattle.concrete_notation.specs.declared.concrete.Concrete.TheBlock.{hidden-t
 use Rattle.concrete_notation.specs.Nests.{Nest, inside, left_in_order, nests, next_loops, SharesLoops, workspaces}
 use Rattle.concrete_notation.proofs.Orders.{is_order_of}
 use Rattle.concrete_notation.proofs.Points.{contains_both, or_first, or_second}
-use Rattle.loop_code.specs.declared.loops.LoopCode.{LoopCode, Add, Both', Loop', Row_of-LoopCode, end_of-LoopCode, more_of-LoopCode}
+use Rattle.loop_code.specs.declared.loops.LoopCode.{LoopCode, Add, Both', Loop', Sum', Row_of-LoopCode, end_of-LoopCode}
+use Rattle.loop_code.specs.declared.loops.LoopCode.{more_of-LoopCode}
 use Rattle.lowering.specs.Lowered.{IsInOrder, concrete_of, concrete_in, plain}
 use Rattle.row_orders.specs.Orders.{AreOutsideSums}
 use Rattle.row_orders.proofs.FrontRows.{led}
@@ -33,6 +34,7 @@ mutual
   common P (Loop' w seeks p body) h = common_in P body (each_unmapped (λ (n : Nest). P) (inside w) (nests (concrete_in body)) h)
   common P (Both' p f q g) h = common_in P f (each_parts (λ (n : Nest). P) (nests (concrete_in f)) (nests (concrete_in g)) h).0
   common P (Add t) h = h.0
+  common P (Sum' k p inside q body) h = common_in P body h
 
   common_in : {m : _} (P : Type 0) (row : Row_of-LoopCode m) → Each (λ (n : Nest). P) (nests (concrete_in row)) → P
   common_in P end_of-LoopCode h = h.0
@@ -65,6 +67,7 @@ module _ (v : ℕ) (front : List ℕ) where
         contains_both (next_loops (concrete_in f)) (next_loops (concrete_in g)) v
         ∙ or_first (contains (next_loops (concrete_in f)) v) (contains (next_loops (concrete_in g)) v) (stands_next_in f parts.0)
     stands_next (Add t) h = absurd h.0.starts
+    stands_next (Sum' k p inside q body) h = stands_next_in body h
 
     stands_next_in : {m : _} (row : Row_of-LoopCode m) → Each (IsLed (v ∷ front)) (nests (concrete_in row))
         → contains (next_loops (concrete_in row)) v ≡ true
@@ -102,6 +105,7 @@ mutual
       absurd (twice v (next_loops (concrete_in f)) (next_loops (concrete_in g)) (stands_next_in v front f parts.0)
       (stands_next_in v front g parts.1) shared.0)
   chain_of (v ∷ front) (Add t) led shared = absurd led.0.starts
+  chain_of (v ∷ front) (Sum' k p inside q body) led shared = chain_in (v ∷ front) body led shared
 
   chain_in : {m : _} (front : List ℕ) (row : Row_of-LoopCode m) → Each (IsLed front) (nests (concrete_in row))
       → SharesLoops (concrete_in row) → IsChain_in front row

@@ -1,7 +1,8 @@
 -- No more sums are drained at the points of outer loops together than the rows of all loops have.
-use Rattle.std.specs.Prelude.{◌≡◌, ℕ, zero, suc, ◌+◌, ◌≤◌, ◌<◌, nat_eq, ◌||◌, Bool, true, false, List, [], ◌∷◌, ◌++◌, length, refl}
+use Rattle.std.specs.Prelude.{◌≡◌, ℕ, zero, suc, ◌+◌, ◌≤◌, ◌<◌, nat_eq, ◌||◌, Bool, true, false, if◌then◌else◌, List, [], ◌∷◌, ◌++◌, length}
+use Rattle.std.specs.Prelude.{Option, None, refl}
 use Rattle.std.proofs.lemmas.Bool.Decides.{nat_tests}
-use Rattle.std.proofs.Common.{◌∙◌, sym, ap, arith, inl}
+use Rattle.std.proofs.Common.{◌∙◌, sym, ap, subst, arith, inl}
 use Rattle.std.proofs.lemmas.List.{length-append, length-map}
 use Rattle.numbers.specs.Arithmetic.{Arithmetic}
 use Rattle.lists.proofs.Each.{each_append}
@@ -12,20 +13,23 @@ use Rattle.expr_terms.specs.Points.{with_coordinate}
 use Rattle.expr_terms.specs.Terms.{contains}
 use Rattle.expr_terms.proofs.PointLaws.{coordinate_same}
 use Rattle.concrete_notation.specs.Contributions.{rows_below, sums_of}
-use Rattle.loop_code.specs.declared.loops.LoopCode.{LoopCode, Add, Both', Loop', Row_of-LoopCode, end_of-LoopCode, more_of-LoopCode}
+use Rattle.loop_code.specs.declared.loops.LoopCode.{LoopCode, Add, Both', Loop', Sum', Row_of-LoopCode, end_of-LoopCode}
+use Rattle.loop_code.specs.declared.loops.LoopCode.{more_of-LoopCode}
 use Rattle.loop_code.specs.declared.loops.Seek.{Seek}
-use Rattle.loop_code.specs.Loops.{Env, contributions, contributions_in, moved}
-use Rattle.loop_code.specs.Parts.{here, is_live_below_in, only}
+use Rattle.loop_code.specs.Loops.{Env, at_cursor, contributions, contributions_in, moved, sum_of}
+use Rattle.loop_code.specs.Parts.{given, here, is_live_below, is_live_below_in, only, remains_below}
 use Rattle.loop_code.specs.Places.{IsWellPlaced, IsWellPlaced_in, depth_after}
 use Rattle.loop_code.specs.Turns.{count_below}
 use Rattle.loop_code.proofs.Parts.{pruned_rows, rows_same}
+use Rattle.level_core.specs.declared.span.Span.{Span}
+use Rattle.loop_flags.proofs.EnvLaws.{sum_left_out}
 use Rattle.lowering.specs.Layouts.{layout_of}
 use Rattle.operand_arrays.specs.Operands.{Operands, stored_in}
 use Rattle.summed_groups.specs.Groups.{AllBefore, ComesBefore, GroupsBefore, with_front, with_fronts}
 use Rattle.summed_groups.proofs.Parts.{sums_of_both}
 use Rattle.summed_groups.proofs.Prefixed.{sums_behind}
 use Rattle.grouped_loops.specs.Chains.{IsChain, IsChain_in}
-use Rattle.grouped_loops.specs.Emitted.{sums_at, sums_in}
+use Rattle.grouped_loops.specs.Emitted.{kept_sum, sums_at, sums_in}
 use Rattle.grouped_loops.proofs.Fronts.{fronts_stay, moved_point}
 
 -- rows of coordinate x in front come before all with y in front, if x is less
@@ -89,6 +93,32 @@ module _ (a : Arithmetic) (s : Statement) (formats : List (List FormatLevel)) (t
         (ap (λ (point : ℕ → ℕ). point v) (moved_point a (layout_of s formats) (stored_in o) ranges w seeks env x)
         ∙ ap (λ u. with_coordinate env.point u x v) is ∙ coordinate_same env.point v x)
 
+  -- the body of a sum has the same rows where this isn't made since it doesn't have to be
+  kept_rows : {m : _} {n : _} (target : List ℕ) (k : ℕ) (inside : Row_of-LoopCode m) (body : Row_of-LoopCode n) (env : Env)
+      → contributions_in a (layout_of s formats) (stored_in o) ranges target body
+      (at_cursor env k (kept_sum a s formats tail o ranges k inside body env))
+      ≡ contributions_in a (layout_of s formats) (stored_in o) ranges target body
+      (at_cursor env k (sum_of a (contributions_in a (layout_of s formats) (stored_in o) ranges [] inside env)))
+  kept_rows target k inside end_of-LoopCode env = refl
+  kept_rows target k end_of-LoopCode (more_of-LoopCode c rest) env =
+      by (is_live_below (given (here env) k false) c k)
+    where
+      by : (b : Bool) → contributions a (layout_of s formats) (stored_in o) ranges target c (at_cursor env k (if b then None else None))
+          ≡ contributions a (layout_of s formats) (stored_in o) ranges target c (at_cursor env k None)
+      by true = refl
+      by false = refl
+  kept_rows target k (more_of-LoopCode f others) (more_of-LoopCode c rest) env =
+      by (is_live_below (given (here env) k (remains_below (here env) f)) c k) refl
+    where
+      o_sum : Option Span
+      o_sum = sum_of a (contributions a (layout_of s formats) (stored_in o) ranges [] f env)
+
+      by : (b : Bool) → is_live_below (given (here env) k (remains_below (here env) f)) c k ≡ b
+          → contributions a (layout_of s formats) (stored_in o) ranges target c (at_cursor env k (if b then o_sum else None))
+          ≡ contributions a (layout_of s formats) (stored_in o) ranges target c (at_cursor env k o_sum)
+      by true is = refl
+      by false is = sum_left_out a (layout_of s formats) (stored_in o) ranges target k f c env is
+
   mutual
     -- no more sums are drained than all rows have
     pub sums_few : (vs bound : List ℕ) (depth : ℕ → ℕ) (c : LoopCode) (env : Env)
@@ -110,6 +140,10 @@ module _ (a : Arithmetic) (s : Statement) (formats : List (List FormatLevel)) (t
         omega (arith, more, together, same)
     sums_few (v ∷ vs) bound depth (Both' p f q g) env placed chain = absurd chain
     sums_few (v ∷ vs) bound depth (Add t) env placed chain = absurd chain
+    sums_few (v ∷ vs) bound depth (Sum' k p inside q body) env placed chain =
+        subst (λ rows. sums_in a s formats tail o ranges (v ∷ vs) body (at_cursor env k (kept_sum a s formats tail o ranges k inside body env))
+        ≤ length (sums_of a rows)) (kept_rows ((v ∷ vs) ++ tail) k inside body env)
+        (sums_few_in (v ∷ vs) bound depth body (at_cursor env k (kept_sum a s formats tail o ranges k inside body env)) placed.3 chain)
 
     sums_few_in : {m : _} (vs bound : List ℕ) (depth : ℕ → ℕ) (row : Row_of-LoopCode m) (env : Env)
         → IsWellPlaced_in (layout_of s formats) (length s.accesses) bound depth row → IsChain_in vs row

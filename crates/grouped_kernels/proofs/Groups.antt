@@ -141,7 +141,7 @@ module _ (a : Arithmetic) (laws : Laws a) (s : Statement) (formats : List (List 
   both = grouped_sink within appended_sink
 
   abbrev rows_on : Store → List Entry
-  rows_on store = rows_to a s formats (told_by a store) (stored_in (operands_in s store)) (left_in_order s in_order.order) loops
+  rows_on store = rows_to a s formats (told_by a s store) (stored_in (operands_in s store)) (left_in_order s in_order.order) loops
 
   abbrev most : Store → LoopKind → ℕ
   most store = from.adds.most (operands_in s store) (slice_index store.ranges) start
@@ -289,9 +289,9 @@ module _ (a : Arithmetic) (laws : Laws a) (s : Statement) (formats : List (List 
                 many =
                     let most_of = p.1.within in
                     let held = (told s formats store (read_store a laws s formats c in_order f loops l store is) a laws).held in
-                    let few = groups_are_few s formats c in_order loops l.rows a laws (told_by a store) (stored_in (operands_in s store)) held
+                    let few = groups_are_few s formats c in_order loops l.rows a laws (told_by a s store) (stored_in (operands_in s store)) held
                     keys r.front r.before r.group r.rest r.is in
-                    let same = ap (λ n. pairs_at s in_order.order (take n keys) r.front (told_by a store)) r.long in
+                    let same = ap (λ n. pairs_at s in_order.order (take n keys) r.front (told_by a s store)) r.long in
                     omega (arith, most_of, few, same);
               };
               large = λ v alone.
@@ -344,6 +344,8 @@ module _ (a : Arithmetic) (laws : Laws a) (s : Statement) (formats : List (List 
           stands : Stands (beside_lists both 0 past) g s formats places (behind k) [] (λ j. 0) (operands_in s store)
               (slice_index store.ranges) start setting.arithmetic store.ranges [] u
           stands = record {
+            least = 0;
+            mine_from = λ y mine. omega arith;
             mine_below = λ y mine. elim mine [ inl m ↦ m.before | inr n ↦ absurd (from.workspace.laws.plain w y n) ];
             from = top.from;
             kept = λ b of. ((top.kept b of, from.workspace.operands b of), operand_apart 0 past b of);

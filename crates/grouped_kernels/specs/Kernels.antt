@@ -30,7 +30,7 @@ use Rattle.grouped_kernels.specs.Workspaces.{BeginsEmpty, IsWorkspace}
 -- A workspace of the left variables behind the first ones in loop order is refused a growth to no more pairs than there are at one head of
 -- those. Where it has one key alone, that variable's range is too large for marks.
 pub record RefusesBehind (a : Arithmetic) (s : Statement) (order : List ℕ) (first : ℕ) (store : Store) (count : ℕ) : Type 0 where
-  pub few : AreAtOneHead s order (take first (left_in_order s order)) (told_by a store) count
+  pub few : AreAtOneHead s order (take first (left_in_order s order)) (told_by a s store) count
   pub large : (v : ℕ) → drop first (left_in_order s order) ≡ v ∷ [] → greatest_marked_range < slice_index store.ranges v
 
 -- any level may be refused a growth, and such a workspace

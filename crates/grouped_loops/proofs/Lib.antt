@@ -4,3 +4,4 @@ pub mod Groups
 pub mod Loops
 pub mod Chains
 pub mod Whole
+pub mod Sums

@@ -57,14 +57,14 @@ has_front n front row = pointwise nat_eq (take n row.coords) front
 abbrev pub FrontsAreCounted : Type 0
 FrontsAreCounted = (s : Statement) (formats : List (List FormatLevel)) (c : Concrete) (in_order : IsInOrder s formats c) (loops : LoopCode)
     → AddsRows s formats c loops → (a : Arithmetic) → Laws a → (inputs : Inputs) (stored : Stored)
-    → AreHeld a (layout_of s formats) stored s.accesses inputs → (target : List ℕ) (n : ℕ) (front : List ℕ)
+    → AreHeld a (layout_of s formats) stored s inputs → (target : List ℕ) (n : ℕ) (front : List ℕ)
     → count_by (has_front n front) (rows_to a s formats inputs stored target loops) ≡ pairs_at s in_order.order (take n target) front inputs
 
 -- so a group of those rows, which all have that front, is no greater
 abbrev pub GroupsAreFew : Type 0
 GroupsAreFew = (s : Statement) (formats : List (List FormatLevel)) (c : Concrete) (in_order : IsInOrder s formats c) (loops : LoopCode)
     → AddsRows s formats c loops → (a : Arithmetic) → Laws a → (inputs : Inputs) (stored : Stored)
-    → AreHeld a (layout_of s formats) stored s.accesses inputs → (target front : List ℕ) (before group rest : List Entry)
+    → AreHeld a (layout_of s formats) stored s inputs → (target front : List ℕ) (before group rest : List Entry)
     → rows_to a s formats inputs stored target loops ≡ before ++ (with_fronts front group ++ rest)
     → length group ≤ pairs_at s in_order.order (take (length front) target) front inputs
 

@@ -7,7 +7,7 @@ use Rattle.index_notation.specs.declared.syntax.Name.{Name}
 use Rattle.index_notation.specs.declared.token.WrittenAccess.{WrittenAccess}
 use Rattle.index_notation.specs.Statement.{IsAccess}
 use Rattle.lists.specs.Each.{Each}
-use Rattle.index_notation.specs.Numbering.{is_same, place_of, without, distinct, name_of, variables_of, numbered}
+use Rattle.index_notation.specs.Numbering.{is_same, place_of, without, distinct, name_of, numbered}
 use Rattle.index_notation.specs.NumberingLaws.{Stands, Tested, Within, yes, no}
 
 pub tested : (b : Bool) → Tested b
@@ -99,13 +99,13 @@ numbered_is_access tensors vars access t v o = record {
 }
 
 pub numbered_are_accesses : (tensors vars : List Name) (accesses : List WrittenAccess) → Within (map name_of accesses) tensors
-    → Within (variables_of accesses) vars → Each (λ access. length access.vars ≤ greatest_order) accesses
+    → Each (λ access. Within access.vars vars) accesses → Each (λ access. length access.vars ≤ greatest_order) accesses
     → Each (IsAccess (length tensors) (length vars)) (map (numbered tensors vars) accesses)
 numbered_are_accesses tensors vars [] t v o = tt
 numbered_are_accesses tensors vars (access ∷ accesses) t v o = (
   numbered_is_access tensors vars access
       (t access.name (stands_here access.name access.name (map name_of accesses) (same_self access.name)))
-      (λ name s. v name (stands_front name access.vars (variables_of accesses) s)) o.0,
+      v.0 o.0,
   numbered_are_accesses tensors vars accesses (λ name s. t name (stands_later name access.name (map name_of accesses) s))
-      (λ name s. v name (stands_back name access.vars (variables_of accesses) s)) o.1,
+      v.1 o.1,
 )

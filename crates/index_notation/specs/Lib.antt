@@ -1,10 +1,5 @@
-pub mod Faults
-pub mod Grammar
-pub mod Notation
 pub mod Numbering
 pub mod NumberingLaws
 pub mod Operators
 pub mod Statement
-pub mod Symbols
 pub mod Tokens
-pub mod TreeStatement

@@ -7,6 +7,10 @@ use Rattle.index_notation.specs.declared.token.WrittenAccess.{WrittenAccess}
 abbrev pub is_same : Name → Name → Bool
 is_same a b = bytes_eq a.bytes b.bytes
 
+-- the name with which a nested sum begins
+abbrev pub sum_name : Name
+sum_name = record { bytes = 115 ∷ 117 ∷ 109 ∷ [] }
+
 -- the place of a name in a row, which is the row's length where it doesn't stand there
 abbrev pub place_of : List Name → Name → ℕ
 place_of [] name = 0

@@ -3,12 +3,15 @@ use Rattle.std.specs.Prelude.{◌≡◌, ◌+◌, ◌<◌, ℕ, suc, List, [], �
 use Rattle.std.proofs.Common.{◌∙◌, sym, ap, subst, arith}
 use Rattle.std.proofs.lemmas.List.Elements.{All-cons}
 use Rattle.numbers.specs.Arithmetic.{Arithmetic}
+use Rattle.kernel_code.specs.declared.syntax.Kernel.{Kernel}
 use Rattle.kernel_code.specs.Kernels.{KernelOutcome, Finished, GotStuck, TooLong, NotFinished}
 use Rattle.level_core.specs.Meaning.{Arrays}
 use Rattle.level_core.specs.declared.letter.Letter.{Letter}
 use Rattle.level_rows.specs.Stacks.{Column}
 use Rattle.level_rows.proofs.StackLaws.{place_within}
 use Rattle.format_spec.specs.Formats.{letters_of, IsFormat}
+use Rattle.format_spec.specs.declared.format.FormatLevel.{FormatLevel}
+use Rattle.expr_terms.specs.Nested.{flat}
 use Rattle.index_notation.specs.declared.syntax.Statement.{Statement}
 use Rattle.concrete_notation.specs.Contributions.{Inputs}
 use Rattle.tensor_storage.specs.Built.{counts_of, AreBuilt}
@@ -23,7 +26,7 @@ use Rattle.tensor_storage.specs.Tables.{Table}
 use Rattle.storage_arrays.specs.Arrays.{positions_in}
 use Rattle.storage_arrays.proofs.Packed.{packed_are_done, positions_same, heads, tails}
 use Rattle.kernel_correctness.specs.Laws.{RightIsSound}
-use Rattle.kernel_correctness.specs.Kernels.{IsRightOutcome, IsSoundOutcome}
+use Rattle.kernel_correctness.specs.Kernels.{IsRightFor, IsRightOutcome, IsRightOutcomeFor, IsSoundKernel, IsSoundOutcome}
 use Rattle.kernel_correctness.specs.Results.{LeavesResult, LeavesStorage, positions_below}
 use Rattle.kernel_correctness.specs.Stores.{Store, told_by, result_sizes}
 
@@ -90,4 +93,25 @@ sound_outcome a s inputs store NotFinished is_format r = absurd r
 pub right_is_sound : RightIsSound
 right_is_sound a s formats kernel right store is arrays given =
     let e = right store is arrays given in
-    record { turns = e.turns; outcome = e.outcome; is = e.is; appends = e.appends; so = sound_outcome a s (told_by a store) store e.outcome is.format e.so }
+    record { turns = e.turns; outcome = e.outcome; is = e.is; appends = e.appends; so = sound_outcome a s (told_by a s store) store e.outcome is.format e.so }
+
+-- so is one that is right for a written statement
+outcome_for : (a : Arithmetic) (s : Statement) (formats : List (List FormatLevel)) (store : Store) (o : KernelOutcome)
+    → IsFormat store.format → IsRightOutcomeFor a s formats store o → IsSoundOutcome a.zero store o
+outcome_for a s formats store (Finished arrays turns) is_format r =
+    keeps_rules a (flat s) (told_by a (flat s) store) store arrays is_format r
+outcome_for a s formats store (GotStuck statement) is_format r = absurd r
+outcome_for a s formats store (TooLong place count) is_format r = tt
+outcome_for a s formats store NotFinished is_format r = absurd r
+
+pub right_for_is_sound : (a : Arithmetic) (s : Statement) (formats : List (List FormatLevel)) (kernel : Kernel)
+    → IsRightFor a s formats kernel → IsSoundKernel a (flat s) formats kernel
+right_for_is_sound a s formats kernel right store is arrays given =
+    let e = right store is arrays given in
+    record {
+      turns = e.turns;
+      outcome = e.outcome;
+      is = e.is;
+      appends = e.appends;
+      so = outcome_for a s formats store e.outcome is.format e.so;
+    }

@@ -9,6 +9,10 @@ use Rattle.level_core.specs.Meaning.{Arrays}
 use Rattle.format_spec.specs.declared.format.FormatLevel.{FormatLevel}
 use Rattle.index_notation.specs.Statement.{numbers_from}
 use Rattle.index_notation.specs.declared.syntax.Statement.{Statement}
+use Rattle.iteration_graph.specs.Edges.{statement_edges}
+use Rattle.iteration_graph.specs.Graphs.{IsLoopOrder}
+use Rattle.expr_terms.specs.Nested.{flat}
+use Rattle.nested_sums.specs.Multiplied.{multiplied}
 use Rattle.concrete_notation.specs.Contributions.{Inputs}
 use Rattle.concrete_notation.specs.Workspaces.{AreAllDense}
 use Rattle.lowering.specs.Right.{pairs}
@@ -42,7 +46,7 @@ pub record Ends (a : Arithmetic) (order : ℕ) (kernel : Kernel) (arrays : Array
 -- the kernel is right for the statement and formats: on every store, whatever the ranges and the operands
 abbrev pub IsRightKernel : Arithmetic → Statement → List (List FormatLevel) → Kernel → Type 0
 IsRightKernel a s formats kernel = (store : Store) → IsStoreOf s formats store → (arrays : Arrays) → IsGiven a.zero store arrays
-    → Ends a (length store.format) kernel arrays (IsRightOutcome a s (told_by a store) store)
+    → Ends a (length store.format) kernel arrays (IsRightOutcome a s (told_by a s store) store)
 
 -- it finishes with a storage that keeps the rules, or is refused a growth; it is never stuck, and its turns come to an end
 abbrev pub IsSoundOutcome : ℕ → Store → KernelOutcome → Type 0
@@ -59,3 +63,29 @@ IsSoundOn a kernel store = (arrays : Arrays) → IsGiven a.zero store arrays
 -- and on every store of a statement and formats
 abbrev pub IsSoundKernel : Arithmetic → Statement → List (List FormatLevel) → Kernel → Type 0
 IsSoundKernel a s formats kernel = (store : Store) → IsStoreOf s formats store → IsSoundOn a kernel store
+
+-- ---- of a written statement, with nested sums
+-- the statement whose loops a kernel goes through in a loop order: the written one multiplied out, which reads as tensors the sums that are
+-- left
+abbrev pub looped : Arithmetic → Statement → List ℕ → Statement
+looped a s order = flat (multiplied a.one s order)
+
+-- so many pairs at most as there are of a term and a point where it is present, in the loop order
+abbrev pub AreFewPairs : Arithmetic → Statement → List (List FormatLevel) → Store → ℕ → Type 0
+AreFewPairs a s formats store count =
+    (order : List ℕ) × IsLoopOrder (length s.vars) (statement_edges s formats) order
+    × (count ≤ pairs (looped a s order) (standing_order s) (told_by a (looped a s order) store))
+
+-- a kernel finishes and leaves the statement's values; or a level or the workspace would grow too large, as above
+abbrev pub IsRightOutcomeFor : Arithmetic → Statement → List (List FormatLevel) → Store → KernelOutcome → Type 0
+IsRightOutcomeFor a s formats store (Finished arrays turns) = LeavesResult a (flat s) (told_by a (flat s) store) store arrays
+IsRightOutcomeFor a s formats store (GotStuck statement) = ⊥
+IsRightOutcomeFor a s formats store (TooLong (Level level) count) = MayPass a (flat s) (told_by a (flat s) store) store level count
+IsRightOutcomeFor a s formats store (TooLong Workspace count) =
+    (greatest_position_count < count) × AreFewPairs a s formats store count × (AreAllDense store.format → ⊥)
+IsRightOutcomeFor a s formats store NotFinished = ⊥
+
+-- the kernel is right for the written statement and formats, on every store
+abbrev pub IsRightFor : Arithmetic → Statement → List (List FormatLevel) → Kernel → Type 0
+IsRightFor a s formats kernel = (store : Store) → IsStoreOf (flat s) formats store → (arrays : Arrays) → IsGiven a.zero store arrays
+    → Ends a (length store.format) kernel arrays (IsRightOutcomeFor a s formats store)

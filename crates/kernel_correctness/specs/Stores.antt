@@ -1,6 +1,6 @@
 -- What a kernel is run on: the ranges of the variables, packed operands, and the arrays with which its run starts.
-use Rattle.std.specs.Prelude.{◌≡◌, ℕ, zero, suc, ◌≤◌, ◌<◌, ◌^◌}
-use Rattle.std.specs.Prelude.{List, [], ◌∷◌, length, map, All}
+use Rattle.std.specs.Prelude.{◌≡◌, ℕ, zero, suc, ◌+◌, ◌-◌, ◌≤◌, ◌<◌, ◌^◌}
+use Rattle.std.specs.Prelude.{List, [], ◌∷◌, length, map, take, All}
 use Rattle.std.specs.Prelude.{Some, slice_index, slice_index_or, replicate}
 use Rattle.limits.specs.Limits.{greatest_position_count}
 use Rattle.numbers.specs.Arithmetic.{Arithmetic}
@@ -11,14 +11,18 @@ use Rattle.level_core.specs.Laws.{AreAtStart}
 use Rattle.level_core.specs.Meaning.{Arrays}
 use Rattle.format_spec.specs.declared.format.FormatLevel.{FormatLevel}
 use Rattle.format_spec.specs.Formats.{letters_of, IsFormat}
+use Rattle.index_notation.specs.Statement.{IsNumberedWithSums}
 use Rattle.index_notation.specs.declared.syntax.Statement.{Statement}
 use Rattle.iteration_graph.specs.Edges.{format_of}
+use Rattle.expr_terms.specs.Nested.{flat, values_with}
 use Rattle.expr_terms.specs.Ranges.{mode_size}
+use Rattle.workspaces.specs.Nested.{paths_with}
 use Rattle.concrete_notation.specs.Contributions.{Inputs}
 use Rattle.tensor_storage.specs.declared.level.StorageLevel.{StorageLevel}
 use Rattle.tensor_storage.specs.Levels.{meaning}
 use Rattle.tensor_storage.specs.Storages.{Storage, IsStorage, storage_of, in_level_order}
 use Rattle.lowering.specs.Stored.{inputs_of}
+use Rattle.lowering.specs.Sums.{first_sum}
 
 -- the range of each variable in standing order, the operands by their numbers from 1 on, and the result's format
 pub record Store : Type 0 where
@@ -84,12 +88,19 @@ AreOperands s formats ranges tensor (operand ∷ operands) =
     IsOperand (format_of formats tensor) (level_sizes s ranges tensor (format_of formats tensor)) operand
     × AreOperands s formats ranges (suc tensor) operands
 
--- a store of a statement and formats: a range for each variable, none above the limit, an operand for each tensor of the right side,
--- and a result that can be begun
+-- the statement reads each nested sum of a written one as a tensor, and tensors alone have formats
+pub record IsFlat (s : Statement) (formats : List (List FormatLevel)) : Type 0 where
+  pub written : Statement
+  pub numbered : IsNumberedWithSums written
+  pub is : s ≡ flat written
+  pub few : length formats ≤ length written.tensors
+
+-- a store of a statement and formats: a range for each variable, none above the limit, an operand for each tensor of the right side but
+-- those that stand for nested sums, and a result that can be begun
 pub record IsStoreOf (s : Statement) (formats : List (List FormatLevel)) (store : Store) : Type 0 where
   pub each : length store.ranges ≡ length s.vars
   pub small : All (λ range. range ≤ greatest_position_count) store.ranges
-  pub operands : suc (length store.operands) ≡ length s.tensors
+  pub operands : suc (length store.operands + length s.sums) ≡ length s.tensors
   pub operands_keep : AreOperands s formats (slice_index store.ranges) 1 store.operands
   pub format_is : store.format ≡ format_of formats 0
   pub format : IsFormat store.format
@@ -104,6 +115,20 @@ abbrev pub operand_of : Store → ℕ → Storage
 operand_of store zero = nothing_stored
 operand_of store (suc n) = slice_index_or store.operands n nothing_stored
 
--- what a store tells a statement: the paths of each operand, with the value at which each ends, and else zero
-abbrev pub told_by : Arithmetic → Store → Inputs
-told_by a store = inputs_of a (operand_of store) (slice_index store.ranges)
+-- what is told of tensors, and behind them of a statement's nested sums, each of which it reads as a tensor: the sum of what stands inside
+-- over the range of its variable, and a path where that is present at some coordinate of it
+abbrev pub told_with_sums : Arithmetic → Statement → Inputs → Inputs
+told_with_sums a s inputs = record {
+  paths = paths_with inputs.ranges (length s.vars) (take (first_sum s) s.accesses) (length s.tensors - length s.sums) s.sums inputs.paths;
+  values = values_with a inputs.ranges (length s.vars) (take (first_sum s) s.accesses) (length s.tensors - length s.sums) s.sums
+      inputs.values;
+  ranges = inputs.ranges;
+}
+
+-- what a store tells of its operands: the paths of each, with the value at which each ends, and else zero
+abbrev pub told_alone : Arithmetic → Store → Inputs
+told_alone a store = inputs_of a (operand_of store) (slice_index store.ranges)
+
+-- what it tells a statement, with its nested sums
+abbrev pub told_by : Arithmetic → Statement → Store → Inputs
+told_by a s store = told_with_sums a s (told_alone a store)

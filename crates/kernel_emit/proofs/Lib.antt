@@ -3,6 +3,7 @@ pub mod BothLaws
 pub mod Coming
 pub mod EndingLaws
 pub mod Equations
+pub mod FewerLaws
 pub mod Fits
 pub mod GatheringLaws
 pub mod Kept
@@ -12,9 +13,14 @@ pub mod LoopLaws
 pub mod LoopParts
 pub mod OffRange
 pub mod Pieces
+pub mod ReadLaws
+pub mod RowLaws
 pub mod Rows
 pub mod Sequences
+pub mod SummedLaws
 pub mod TellingLaws
+pub mod ToldLaws
 pub mod Turns
 pub mod Walks
 pub mod Whole
+pub mod WithinLaws

@@ -7,3 +7,7 @@ pub mod Gathering
 pub mod Given
 pub mod Known
 pub mod Opened
+pub mod Seen
+pub mod Summed
+pub mod Told
+pub mod Within

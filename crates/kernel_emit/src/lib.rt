@@ -13,7 +13,11 @@ mod gathering;
 mod head;
 mod opening;
 mod presence;
+mod summing;
+mod told;
+mod within;
 
 pub use beginning::{Begun, begin_loop, end_loop};
 pub use emitting::{Emitted, emit};
 pub use opening::Opened;
+pub use summing::{Summing, begin_sum, end_sum};

@@ -11,7 +11,7 @@ use Rattle.index_notation.specs.declared.syntax.Statement.{Statement}
 use Rattle.iteration_graph.specs.Edges.{format_of}
 use Rattle.tensor_storage.specs.Storages.{Storage}
 use Rattle.storage_arrays.specs.Arrays.{AreDone}
-use Rattle.kernel_correctness.specs.Kernels.{IsRightKernel, IsSoundOn}
+use Rattle.kernel_correctness.specs.Kernels.{IsRightFor, IsSoundOn}
 use Rattle.kernel_machine.specs.Begins.{store_of}
 use Rattle.operand_packing.specs.Operands.{AreOperands, AreRanges}
 use Rattle.limits.specs.Limits.{greatest_position_count}
@@ -59,7 +59,7 @@ module _ (a : Arithmetic) (s : Statement) (formats : List (List FormatLevel)) (o
         subst (λ es. MayNotPack a s formats (slice_index ranges) es fault) entries_are
         (subst (λ (rs : List ℕ). MayNotPack a s formats (slice_index rs) entries fault) lent_is why)
 
-    module _ (laws : Laws a) (kernel : Kernel) (right : IsRightKernel a s formats kernel) (rs : List ℕ) (rs_are : rs ≡ ranges)
+    module _ (laws : Laws a) (kernel : Kernel) (right : IsRightFor a s formats kernel) (rs : List ℕ) (rs_are : rs ≡ ranges)
         (first : List FormatLevel) (front : first ≡ slice_index_or formats 0 first) where
       pub enough_lent : length first ≤ length rs
       enough_lent = subst (λ (xs : List ℕ). length first ≤ length xs) (sym rs_are)

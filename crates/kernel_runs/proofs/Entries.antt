@@ -11,8 +11,13 @@ use Rattle.index_notation.specs.declared.syntax.Statement.{Statement}
 use Rattle.iteration_graph.specs.Edges.{format_of}
 use Rattle.expr_terms.specs.Operands.{operand_values}
 use Rattle.expr_terms.specs.Result.{AreBelow}
+use Rattle.expr_terms.specs.Nested.{flat, nested_value}
 use Rattle.expr_terms.specs.Terms.{statement_value}
-use Rattle.expr_terms.proofs.TermLaws.{statement_value_same}
+use Rattle.workspaces.specs.PresenceLaws.{AreZeroElsewhere}
+use Rattle.workspaces.proofs.NestedZeros.{flat_zero_elsewhere}
+use Rattle.concrete_notation.specs.Contributions.{Inputs}
+use Rattle.kernel_correctness.proofs.FlatStores.{told_flat}
+use Rattle.mode_planner.proofs.NestedSame.{nested_value_same}
 use Rattle.tns_io.specs.Positions.{IsBelow}
 use Rattle.level_core.specs.declared.letter.Letter.{Letter}
 use Rattle.level_core.specs.Entries.{one}
@@ -29,7 +34,7 @@ use Rattle.tensor_storage.proofs.Arranging.{coords_back, level_coord}
 use Rattle.tensor_storage.proofs.Paths.{mode_below}
 use Rattle.lowering.proofs.Walked.{storages_zero}
 use Rattle.kernel_correctness.specs.Results.{IsNamedResult}
-use Rattle.kernel_correctness.specs.Stores.{Store, operand_of, told_by}
+use Rattle.kernel_correctness.specs.Stores.{Store, operand_of, told_alone, told_by}
 use Rattle.operand_packing.specs.Operands.{AreOperands}
 use Rattle.operand_packing.proofs.Below.{below_each, below_length}
 use Rattle.kernel_runs.specs.Runs.{IsStoreFor, IsTensorOf}
@@ -119,7 +124,7 @@ find_row coords letters xs (suc n) = by (find_row coords letters xs n)
 module _ (a : Arithmetic) (laws : Laws a) (s : Statement) (formats : List (List FormatLevel)) (ranges : List ℕ)
     (operands : List Entries) (store : Store) (are : AreOperands s formats operands)
     (for : IsStoreFor a s formats ranges operands store) (tensor : Storage) (table : Table)
-    (named : IsNamedResult a s (told_by a store) store.format table) (packed : IsPacked a.zero store.format store.ranges table tensor)
+    (named : IsNamedResult a (flat s) (told_by a (flat s) store) store.format table) (packed : IsPacked a.zero store.format store.ranges table tensor)
     (entries : Entries) (lists : ListsNonzero a tensor entries) where
   format_is : tensor.format ≡ store.format
   format_is = packed.format_is
@@ -140,6 +145,13 @@ module _ (a : Arithmetic) (laws : Laws a) (s : Statement) (formats : List (List 
   order_is : length store.format ≡ length s.left.vars
   order_is =
       ap length for.is_store.format_is ∙ ap (λ t. length (format_of formats t)) (sym are.named.result) ∙ are.result_format.order
+
+  -- tensors and sums are zero where they have no path
+  elsewhere : AreZeroElsewhere a (told_by a (flat s) store).paths (told_by a (flat s) store).values
+  elsewhere =
+      subst (λ (told : Inputs). AreZeroElsewhere a told.paths told.values) (sym (told_flat a s (told_alone a store)))
+      (flat_zero_elsewhere a laws s (told_alone a store).paths (told_alone a store).values (slice_index store.ranges)
+      (storages_zero a (operand_of store) (slice_index store.ranges)))
 
   -- ---- paths of the tensor are those of the store's format
   to_path : (coords : List ℕ) (pos : ℕ) → EndsAt tensor coords pos
@@ -169,11 +181,11 @@ module _ (a : Arithmetic) (laws : Laws a) (s : Statement) (formats : List (List 
   -- ---- rows and points of the support
   support_of : (i : ℕ) (coords : List ℕ) → i < table.count → length coords ≡ length store.format
       → row_from table.coords i 0 (letters_of store.format) ≡ in_level_order store.format coords
-      → IsInSupport s (told_by a store) coords
+      → IsInSupport (flat s) (told_by a (flat s) store) coords
   support_of i coords h long is =
       let c = named.none_else i h in
       let back : c.0 ≡ coords = coords_back store.format c.0 coords is_format (long_below c.0 c.1.0) long (sym c.2.1 ∙ is) in
-      subst (IsInSupport s (told_by a store)) back c.1
+      subst (IsInSupport (flat s) (told_by a (flat s) store)) back c.1
 
   row_path : (i : ℕ) (coords : List ℕ) → i < table.count
       → row_from table.coords i 0 (letters_of store.format) ≡ in_level_order store.format coords
@@ -205,7 +217,7 @@ module _ (a : Arithmetic) (laws : Laws a) (s : Statement) (formats : List (List 
 
   row_value : (i : ℕ) (coords : List ℕ) → i < table.count → length coords ≡ length store.format
       → row_from table.coords i 0 (letters_of store.format) ≡ in_level_order store.format coords
-      → value_at a lists.all.list coords ≡ statement_value a s (told_by a store).values (slice_index store.ranges) coords
+      → value_at a lists.all.list coords ≡ statement_value a (flat s) (told_by a (flat s) store).values (slice_index store.ranges) coords
   row_value i coords h long is =
       let support = support_of i coords h long is in
       let path = row_path i coords h is support.0 in
@@ -227,7 +239,7 @@ module _ (a : Arithmetic) (laws : Laws a) (s : Statement) (formats : List (List 
       by (inr unlisted) = value_unlisted a laws coords lists.all.list unlisted
 
   value_is : (coords : List ℕ) → AreBelow coords (map (slice_index store.ranges) s.left.vars)
-      → value_at a lists.all.list coords ≡ statement_value a s (told_by a store).values (slice_index store.ranges) coords
+      → value_at a lists.all.list coords ≡ statement_value a (flat s) (told_by a (flat s) store).values (slice_index store.ranges) coords
   value_is coords below =
       by (find_row table.coords (letters_of store.format) (in_level_order store.format coords) table.count)
     where
@@ -238,11 +250,11 @@ module _ (a : Arithmetic) (laws : Laws a) (s : Statement) (formats : List (List 
           × (row_from table.coords i 0 (letters_of store.format) ≡ in_level_order store.format coords))
           ⊎ ((i : ℕ) → i < table.count → row_from table.coords i 0 (letters_of store.format)
           ≡ in_level_order store.format coords → ⊥)
-          → value_at a lists.all.list coords ≡ statement_value a s (told_by a store).values (slice_index store.ranges) coords
+          → value_at a lists.all.list coords ≡ statement_value a (flat s) (told_by a (flat s) store).values (slice_index store.ranges) coords
       by (inl found) = row_value found.0 coords found.1 long found.2
       by (inr none) =
           no_row_value coords long none
-          ∙ sym (zero_outside a laws s (told_by a store) (storages_zero a (operand_of store) (slice_index store.ranges)) coords below
+          ∙ sym (zero_outside a laws (flat s) (told_by a (flat s) store) elsewhere coords below
           (λ support. let r = named.named coords support in none r.0 r.1.0 r.1.1))
 
   -- ---- each entry
@@ -287,9 +299,10 @@ module _ (a : Arithmetic) (laws : Laws a) (s : Statement) (formats : List (List 
         lists.values coords
         ∙ value_is coords (from_below (map (slice_index store.ranges) s.left.vars) coords
         (subst (λ xs. IsBelow xs coords) (shape_is ∙ sym same_shape) below))
-        ∙ statement_value_same a s (told_by a store).values (operand_values a operands)
+        ∙ ap (λ (told : Inputs). statement_value a (flat s) told.values (slice_index store.ranges) coords) (told_flat a s (told_alone a store))
+        ∙ nested_value_same a s (told_alone a store).values (operand_values a operands)
         (values_told a laws s formats ranges operands store are for) (slice_index store.ranges) coords
-        ∙ ap (λ (rs : List ℕ). statement_value a s (operand_values a operands) (slice_index rs) coords) for.ranges_are;
+        ∙ ap (λ (rs : List ℕ). nested_value a s (operand_values a operands) (slice_index rs) coords) for.ranges_are;
   }
     where
       same_shape : map (slice_index store.ranges) s.left.vars ≡ map (slice_index ranges) s.left.vars

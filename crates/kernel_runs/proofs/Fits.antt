@@ -66,8 +66,8 @@ none_refused a s formats kernel given operands bounds ranges (Memory error) told
 none_refused a s formats kernel given operands bounds ranges (Workspace count) told may fit =
     let same = same_ranges _ ranges may.ranges told may.ranges_are in
     let pairs : PairsFit a s formats may.ranges operands = subst (λ rs. PairsFit a s formats rs operands) same fit in
-    let few = pairs may.sparse may.store may.is_store in
-    let most = may.most in
+    let few = pairs may.sparse may.store may.is_store may.most.0 may.most.1 in
+    let most = may.most.2 in
     let passes = may.passes in
     omega (arith, few, most, passes)
 none_refused a s formats kernel given operands bounds ranges (SizeLimit large) told may fit =
@@ -82,8 +82,8 @@ planned_none_refused a s plan kernel given operands bounds ranges (Workspace cou
     let same = same_ranges _ ranges may.ranges told may.ranges_are in
     let pairs : PairsFit a plan.statement plan.formats may.ranges (drawn plan.origins operands) =
     subst (λ rs. PairsFit a plan.statement plan.formats rs (drawn plan.origins operands)) same fit in
-    let few = pairs may.sparse may.store may.is_store in
-    let most = may.most in
+    let few = pairs may.sparse may.store may.is_store may.most.0 may.most.1 in
+    let most = may.most.2 in
     let passes = may.passes in
     omega (arith, few, most, passes)
 planned_none_refused a s plan kernel given operands bounds ranges (SizeLimit large) told may fit =

@@ -21,6 +21,10 @@ use Rattle.storage_arrays.specs.Arrays.{AreDone}
 use Rattle.storage_arrays.proofs.Packed.{packed_are_done}
 use Rattle.kernel_correctness.specs.Stores.{Store, IsOperand, IsStoreOf, level_sizes}
 use Rattle.kernel_correctness.specs.Stores as stores
+use Rattle.kernel_correctness.proofs.FlatStores.{sizes_flat}
+use Rattle.expr_terms.specs.Nested.{flat}
+use Rattle.expr_terms.proofs.NestedLaws.{names_longer}
+use Rattle.std.proofs.lemmas.Option.{slice_get_within}
 use Rattle.kernel_machine.specs.Begins.{store_of}
 use Rattle.operand_packing.specs.Operands.{AreOperands, AreRanges}
 use Rattle.operand_packing.specs.Packed.{ArePackedOperands, IsPackedAt}
@@ -101,11 +105,16 @@ module _ (a : Arithmetic) (s : Statement) (formats : List (List FormatLevel)) (r
     is_store = record {
       each = fits.long;
       small = fits.small;
-      operands = let stored = packed.many in let many = are.many in omega (arith, stored, many);
-      operands_keep = are_operands s formats (slice_index ranges) 1 storages (λ n t at.
+      operands = let stored = packed.many in let many = are.many in let longer = names_longer s.tensors s.sums in
+          omega (arith, stored, many, longer);
+      operands_keep = are_operands (flat s) formats (slice_index ranges) 1 storages (λ n t at.
           let next : suc n ≡ n + 1 = omega arith in
-          subst (λ k. IsOperand (format_of formats k) (level_sizes s (slice_index ranges) k (format_of formats k)) t) next
-          (operand_is a s formats (slice_index ranges) operands n t (packed.each n t at)));
+          subst (λ k. IsOperand (format_of formats k) (level_sizes (flat s) (slice_index ranges) k (format_of formats k)) t) next
+          (subst (λ sizes. IsOperand (format_of formats (suc n)) sizes t)
+          (sizes_flat s (slice_index ranges) (suc n) (format_of formats (suc n))
+          (let below = slice_get_within storages n t at in let stored = packed.many in let many = are.many in
+          omega (arith, below, stored, many)))
+          (operand_is a s formats (slice_index ranges) operands n t (packed.each n t at))));
       format_is = is;
       format = is_format;
       few = few;

@@ -19,7 +19,7 @@ use Rattle.tensor_storage.specs.Told.{TellsEntries}
 use Rattle.tensor_storage.proofs.TellLaws.{packed_tell_entries}
 use Rattle.lowering.specs.Stored.{IsToldBy, inputs_of}
 use Rattle.lowering.proofs.Walked.{storages_tell}
-use Rattle.kernel_correctness.specs.Stores.{Store, operand_of, told_by}
+use Rattle.kernel_correctness.specs.Stores.{Store, operand_of, told_alone}
 use Rattle.operand_packing.specs.Operands.{AreOperands}
 use Rattle.operand_packing.specs.Packed.{IsPackedAt, IsPackedOperand, operand_sizes}
 use Rattle.kernel_runs.specs.Runs.{IsStoreFor}
@@ -61,7 +61,7 @@ module _ (a : Arithmetic) (laws : Laws a) where
   module _ (s : Statement) (formats : List (List FormatLevel)) (ranges : List ℕ) (operands : List Entries) (store : Store)
       (are : AreOperands s formats operands) (is : IsStoreFor a s formats ranges operands store) where
     access_told : (j : ℕ) (access : Access) → slice_get s.accesses j ≡ Some access
-        → AgreeAt (told_by a store).values (operand_values a operands) access
+        → AgreeAt (told_alone a store).values (operand_values a operands) access
     access_told j access at = by access.tensor refl
       where
         unread : access.tensor ≢ 0
@@ -73,7 +73,7 @@ module _ (a : Arithmetic) (laws : Laws a) where
         fits : length (format_of formats access.tensor) ≡ length access.vars
         fits = (each_get (HasFormat formats) s.accesses j access are.formats_fit at).order
 
-        by : (t : ℕ) → access.tensor ≡ t → AgreeAt (told_by a store).values (operand_values a operands) access
+        by : (t : ℕ) → access.tensor ≡ t → AgreeAt (told_alone a store).values (operand_values a operands) access
         by zero e = absurd (unread e)
         by (suc n) e = λ coords long.
             let inside : n < length store.operands =
@@ -83,7 +83,7 @@ module _ (a : Arithmetic) (laws : Laws a) where
             let found : there.0 ≡ operand_of store (suc n) = sym (found_at store.operands n there.0 (storage_of [] [] []) there.1) in
             let order : length coords ≡ length (format_of formats (suc n)) =
             long ∙ sym fits ∙ ap (λ t. length (format_of formats t)) e in
-            ap (λ t. (told_by a store).values t coords) e
+            ap (λ t. (told_alone a store).values t coords) e
             ∙ value_told (operand_of store) (slice_index store.ranges) (suc n) (format_of formats (suc n))
             (operand_sizes s (slice_index ranges) n packed.entries) packed.entries.list
             (subst (IsPackedOperand a (format_of formats (suc n)) (operand_sizes s (slice_index ranges) n packed.entries)
@@ -91,5 +91,5 @@ module _ (a : Arithmetic) (laws : Laws a) where
             ∙ sym (ap (λ t. operand_values a operands t coords) e
             ∙ ap (λ o. value_at a (list_or_none o) coords) packed.is)
 
-    pub values_told : Each (AgreeAt (told_by a store).values (operand_values a operands)) s.accesses
-    values_told = each_from (AgreeAt (told_by a store).values (operand_values a operands)) s.accesses access_told
+    pub values_told : Each (AgreeAt (told_alone a store).values (operand_values a operands)) s.accesses
+    values_told = each_from (AgreeAt (told_alone a store).values (operand_values a operands)) s.accesses access_told

@@ -19,12 +19,12 @@ use Rattle.tensor_storage.specs.Stands.{IsPacked}
 use Rattle.tensor_storage.specs.Storages.{Storage, in_level_order, storage_of}
 use Rattle.storage_arrays.proofs.Packed.{packed_are_done}
 use Rattle.kernel_interpreter.specs.Store.{count_of}
-use Rattle.kernel_correctness.specs.Kernels.{IsRightKernel, IsRightOutcome, IsSoundOn, standing_order}
+use Rattle.expr_terms.specs.Nested.{flat}
+use Rattle.kernel_correctness.specs.Kernels.{AreFewPairs, IsRightFor, IsRightOutcomeFor, IsSoundOn}
 use Rattle.kernel_correctness.specs.Results.{LeavesResult}
 use Rattle.kernel_correctness.specs.Stores.{Store, told_by}
-use Rattle.lowering.specs.Right.{pairs}
 use Rattle.limits.specs.Limits.{greatest_position_count}
-use Rattle.kernel_correctness.proofs.Sound.{right_is_sound}
+use Rattle.kernel_correctness.proofs.Sound.{right_for_is_sound}
 use Rattle.kernel_machine.specs.Begins as begins
 use Rattle.kernel_machine.specs.Begins.{store_of}
 use Rattle.storage_builder.specs.Made.{AllAlike}
@@ -54,7 +54,7 @@ pub record NeedsPairsBy (a : Arithmetic) (s : Statement) (formats : List (List F
   pub store : Store
   pub is_store : IsStoreFor a s formats ranges operands store
   pub passes : greatest_position_count < count
-  pub most : count ≤ pairs s (standing_order s) (told_by a store)
+  pub most : AreFewPairs a s formats store count
   pub sparse : AreAllDense (format_of formats 0) → ⊥
   pub stops : StopsOn a kernel store place.Workspace count
 
@@ -88,7 +88,7 @@ enough_for s formats operands are ranges fits format format_is =
     omega (arith, long, order, fit)
 
 module _ (a : Arithmetic) (laws : Laws a) (s : Statement) (formats : List (List FormatLevel)) (kernel : Kernel)
-    (right : IsRightKernel a s formats kernel) (operands : List Entries) (are : AreOperands s formats operands) (ranges : List ℕ)
+    (right : IsRightFor a s formats kernel) (operands : List Entries) (are : AreOperands s formats operands) (ranges : List ℕ)
     (fits : AreRanges s operands ranges) (format : List FormatLevel) (format_is : format ≡ format_of formats 0) where
   pub enough : length format ≤ length ranges
   enough = enough_for s formats operands are ranges fits format format_is
@@ -99,13 +99,13 @@ module _ (a : Arithmetic) (laws : Laws a) (s : Statement) (formats : List (List 
     store_for few = store_is a s formats ranges operands storages packed format format_is is_format are fits few
 
     pub sound : CanBegin (store_of ranges storages format) → IsSoundOn a kernel (store_of ranges storages format)
-    sound few = right_is_sound a s formats kernel right (store_of ranges storages format) (store_for few).is_store
+    sound few = right_for_is_sound a s formats kernel right (store_of ranges storages format) (store_for few).is_store
 
     stopped : (at : Place) (count : ℕ) (stops : StopsOn a kernel (store_of ranges storages format) at count)
-        → IsRightOutcome a s (told_by a (store_of ranges storages format)) (store_of ranges storages format) (TooLong at count)
+        → IsRightOutcomeFor a s formats (store_of ranges storages format) (TooLong at count)
     stopped at count stops =
         outcome_is a (length format) kernel stops.given
-        (IsRightOutcome a s (told_by a (store_of ranges storages format)) (store_of ranges storages format)) (TooLong at count)
+        (IsRightOutcomeFor a s formats (store_of ranges storages format)) (TooLong at count)
         (right (store_of ranges storages format) (store_for stops.few).is_store stops.given stops.is_given) (λ none. none) stops.ends apart
       where
         apart : TooLong at count ≡ NotFinished → ⊥
@@ -165,9 +165,9 @@ module _ (a : Arithmetic) (laws : Laws a) (s : Statement) (formats : List (List 
         ends : EndsOn a kernel (store_of ranges storages format) tensor turns
         ends = run.ends
 
-        leaves : LeavesResult a s (told_by a (store_of ranges storages format)) (store_of ranges storages format) ends.has_run.arrays
+        leaves : LeavesResult a (flat s) (told_by a (flat s) (store_of ranges storages format)) (store_of ranges storages format) ends.has_run.arrays
         leaves = outcome_is a (length format) kernel ends.given
-            (IsRightOutcome a s (told_by a (store_of ranges storages format)) (store_of ranges storages format))
+            (IsRightOutcomeFor a s formats (store_of ranges storages format))
             (Finished ends.has_run.arrays (count_of turns))
             (right (store_of ranges storages format) (store_for ends.few).is_store ends.given ends.is_given) (λ none. none)
             ends.has_run.ends apart

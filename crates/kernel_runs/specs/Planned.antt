@@ -1,6 +1,6 @@
 -- What the run of a planned statement's kernel over the given statement's operands leaves, and why there is none. Ranges and values are
 -- those of the given statement; what is stored, and the kernel, are the planned one's.
-use Rattle.std.specs.Prelude.{◌≡◌, ℕ, ◌≤◌, ◌<◌, List, Option, Ok, Err, Vec, slice_index}
+use Rattle.std.specs.Prelude.{◌≡◌, ℕ, ◌<◌, List, Option, Ok, Err, Vec, slice_index}
 use Rattle.std.specs.declared.alloc.Global.{Global}
 use Rattle.limits.specs.Limits.{greatest_position_count}
 use Rattle.numbers.specs.Arithmetic.{Arithmetic}
@@ -13,12 +13,11 @@ use Rattle.index_notation.specs.declared.syntax.Statement.{Statement}
 use Rattle.iteration_graph.specs.Edges.{format_of}
 use Rattle.expr_terms.specs.declared.bound.Bound.{Bound}
 use Rattle.concrete_notation.specs.Workspaces.{AreAllDense}
-use Rattle.lowering.specs.Right.{pairs}
 use Rattle.mode_planner.specs.Planned.{IsPlanned}
 use Rattle.mode_planner.specs.declared.planned.Planned.{Planned}
 use Rattle.tensor_storage.specs.Storages.{Storage}
-use Rattle.kernel_correctness.specs.Kernels.{standing_order}
-use Rattle.kernel_correctness.specs.Stores.{Store, told_by}
+use Rattle.kernel_correctness.specs.Kernels.{AreFewPairs}
+use Rattle.kernel_correctness.specs.Stores.{Store}
 use Rattle.operand_packing.specs.Drawn.{drawn}
 use Rattle.operand_packing.specs.Runnable.{IsRunnable, told_ranges}
 use Rattle.operand_packing.specs.declared.large_level.LargeLevel.{LargeLevel}
@@ -69,7 +68,7 @@ pub record NeedsPlannedPairs (a : Arithmetic) (s : Statement) (plan : Planned) (
   pub store : Store
   pub is_store : IsPlannedStore a plan ranges operands store
   pub passes : greatest_position_count < count
-  pub most : count ≤ pairs plan.statement (standing_order plan.statement) (told_by a store)
+  pub most : AreFewPairs a plan.statement plan.formats store count
   pub sparse : AreAllDense (format_of plan.formats 0) → ⊥
   pub stops : StopsOn a kernel store place.Workspace count
 

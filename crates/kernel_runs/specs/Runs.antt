@@ -11,9 +11,9 @@ use Rattle.level_core.specs.Meaning.{Arrays}
 use Rattle.format_spec.specs.declared.format.FormatLevel.{FormatLevel}
 use Rattle.format_spec.specs.Formats.{letters_of}
 use Rattle.index_notation.specs.declared.syntax.Statement.{Statement}
-use Rattle.iteration_graph.specs.Edges.{format_of}
+use Rattle.iteration_graph.specs.Edges.{format_of, statement_edges}
 use Rattle.expr_terms.specs.Operands.{operand_values}
-use Rattle.expr_terms.specs.Terms.{statement_value}
+use Rattle.expr_terms.specs.Nested.{flat, nested_value}
 use Rattle.expr_terms.specs.declared.bound.Bound.{Bound}
 use Rattle.tns_io.specs.Positions.{IsBelow}
 use Rattle.concrete_notation.specs.Workspaces.{AreAllDense}
@@ -22,7 +22,8 @@ use Rattle.tensor_storage.specs.Counts.{AreFew, positions_of}
 use Rattle.tensor_storage.specs.Stands.{IsPacked}
 use Rattle.tensor_storage.specs.Storages.{Storage, in_level_order}
 use Rattle.tensor_storage.specs.Tables.{Table}
-use Rattle.kernel_correctness.specs.Kernels.{standing_order}
+use Rattle.iteration_graph.specs.Graphs.{IsLoopOrder}
+use Rattle.kernel_correctness.specs.Kernels.{AreFewPairs, looped, standing_order}
 use Rattle.kernel_correctness.specs.Results.{IsNamedResult, MayPass}
 use Rattle.kernel_correctness.specs.Stores.{Store, IsGiven, StartsFew, IsStoreOf, told_by}
 use Rattle.kernel_machine.specs.Begins as begins
@@ -44,12 +45,12 @@ pub record IsTensorOf (a : Arithmetic) (s : Statement) (operands : List Entries)
   pub increasing : StrictlyIncreasing entries.list
   pub nonzero : NoneIsZero a entries.list
   pub values_are : (coords : List ℕ) → IsBelow shape coords
-      → value_at a entries.list coords ≡ statement_value a s (operand_values a operands) ranges coords
+      → value_at a entries.list coords ≡ nested_value a s (operand_values a operands) ranges coords
 
 -- a store of a statement and formats, with these ranges, whose operands stand for these entries
 pub record IsStoreFor (a : Arithmetic) (s : Statement) (formats : List (List FormatLevel)) (ranges : List ℕ)
     (operands : List Entries) (store : Store) : Type 0 where
-  pub is_store : IsStoreOf s formats store
+  pub is_store : IsStoreOf (flat s) formats store
   pub ranges_are : store.ranges ≡ ranges
   pub packed : ArePackedOperands a s formats (slice_index ranges) operands store.operands
 
@@ -60,7 +61,7 @@ pub record RunsKernel (a : Arithmetic) (s : Statement) (kernel : Kernel) (store 
   pub is_given : IsGiven a.zero store given
   pub has_run : HasRun a kernel store given tensor turns
   pub table : Table
-  pub named : IsNamedResult a s (told_by a store) store.format table
+  pub named : IsNamedResult a (flat s) (told_by a (flat s) store) store.format table
   pub packed : IsPacked a.zero store.format store.ranges table tensor
 
 -- the ranges agree, the kernel runs on a store of the operands, and these are the result's entries: those of the storage that it leaves
@@ -92,7 +93,7 @@ pub record CantFinish (a : Arithmetic) (s : Statement) (formats : List (List For
     (operands : List Entries) (level count : ℕ) : Type 0 where
   pub store : Store
   pub is_store : IsStoreFor a s formats ranges operands store
-  pub passes : MayPass a s (told_by a store) store level count
+  pub passes : MayPass a (flat s) (told_by a (flat s) store) store level count
   pub stops : StopsOn a kernel store (place.Level level) count
 
 -- a level of a tensor is too large: the result is tensor 0
@@ -118,7 +119,7 @@ pub record NeedsPairs (a : Arithmetic) (s : Statement) (formats : List (List For
   pub store : Store
   pub is_store : IsStoreFor a s formats ranges operands store
   pub passes : greatest_position_count < count
-  pub most : count ≤ pairs s (standing_order s) (told_by a store)
+  pub most : AreFewPairs a s formats store count
   pub sparse : AreAllDense (format_of formats 0) → ⊥
   pub stops : StopsOn a kernel store place.Workspace count
 
@@ -136,13 +137,14 @@ pub record LevelsFit (a : Arithmetic) (s : Statement) (formats : List (List Form
   pub operands_fit : OperandsFit a s formats (slice_index ranges) operands
   pub begins : StartsFew (letters_of (format_of formats 0)) (result_level_sizes formats ranges) 1
   pub result_fits : (store : Store) → IsStoreFor a s formats ranges operands store → (table : Table)
-      → IsNamedResult a s (told_by a store) store.format table → AreFew (positions_of store.format store.ranges table)
+      → IsNamedResult a (flat s) (told_by a (flat s) store) store.format table → AreFew (positions_of store.format store.ranges table)
 
 -- the workspace of a result that isn't dense needs no more pairs than may be
 abbrev pub PairsFit : Arithmetic → Statement → List (List FormatLevel) → List ℕ → List Entries → Type 0
 PairsFit a s formats ranges operands =
     (AreAllDense (format_of formats 0) → ⊥) → (store : Store) → IsStoreFor a s formats ranges operands store
-    → pairs s (standing_order s) (told_by a store) ≤ greatest_position_count
+    → (order : List ℕ) → IsLoopOrder (length s.vars) (statement_edges s formats) order
+    → pairs (looped a s order) (standing_order s) (told_by a (looped a s order) store) ≤ greatest_position_count
 
 -- what a fault of sizes is about fits: levels, or a workspace. Other faults are about no size
 abbrev pub SizesFit : Arithmetic → Statement → List (List FormatLevel) → List ℕ → List Entries → RunFault → Type 0

@@ -1,7 +1,7 @@
 //! A statement computed by the kernel of its planned one.
 ghost use Rattle.std.specs.Prelude.{IfOk, IfErr};
 ghost use Rattle.tensor_map.specs.Entries.{AreEntries};
-ghost use Rattle.kernel_correctness.specs.Kernels.{IsRightKernel};
+ghost use Rattle.kernel_correctness.specs.Kernels.{IsRightFor};
 ghost use Rattle.kernel_runs.specs.Planned.{IsPlannedRun, IsPlannedRunnable, MayRefusePlanned};
 
 use crate::fault::RunFault;
@@ -29,7 +29,7 @@ pub fn run_planned<S: Semiring>(
     mut operands: Operands,
 ) -> Result<KernelRun, RunFault>
     requires runnable { IsPlannedRunnable statement.now plan.now given.now operands.entries.items operands.bounds.items }
-    requires right { IsRightKernel S.arithmetic plan.now.statement plan.now.formats kernel.now }
+    requires right { IsRightFor S.arithmetic plan.now.statement plan.now.formats kernel.now }
 
     // The values are those of the given statement by the ranges that words and operands give it.
     ensures run { IfOk result (λ run. IsPlannedRun S.arithmetic statement.now plan.now kernel.now given.now operands.entries.items

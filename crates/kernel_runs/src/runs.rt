@@ -4,7 +4,7 @@ ghost use Rattle.limits.specs.Limits.{greatest_order, greatest_position_count};
 ghost use Rattle.index_notation.specs.Statement.{IsWellNamed};
 ghost use Rattle.tensor_map.specs.Entries.{AreEntries};
 ghost use Rattle.storage_arrays.specs.Arrays.{AreDone};
-ghost use Rattle.kernel_correctness.specs.Kernels.{IsRightKernel, IsSoundOn};
+ghost use Rattle.kernel_correctness.specs.Kernels.{IsRightFor, IsSoundOn};
 ghost use Rattle.kernel_machine.specs.Begins.{store_of};
 ghost use Rattle.operand_packing.specs.Runnable.{IsRunnable};
 ghost use Rattle.kernel_runs.specs.Runs.{IsRun, MayRefuseRun};
@@ -87,7 +87,7 @@ pub fn run_kernel<S: Semiring>(
     mut operands: Operands,
 ) -> Result<KernelRun, RunFault>
     requires runnable { IsRunnable statement.now formats.now given.now operands.entries.items operands.bounds.items }
-    requires right { IsRightKernel S.arithmetic statement.now formats.now kernel.now }
+    requires right { IsRightFor S.arithmetic statement.now formats.now kernel.now }
 
     // The values are those of the statement by the ranges that words and operands give.
     ensures run { IfOk result (λ run. IsRun S.arithmetic statement.now formats.now kernel.now given.now operands.entries.items

@@ -52,7 +52,7 @@ use Rattle.level_location.specs.SeekCursors.{ends_at}
 use Rattle.level_location.specs.Segments.{segment_at}
 use Rattle.level_location.specs.Walked.{IsLevel, is_listed, letter_of, next_list, past_lists}
 use Rattle.level_location.proofs.CursorFacts.{place_is}
-use Rattle.level_location.proofs.Levels.{LevelThere, seek_level, apart, listed_unordered, listed_not_full}
+use Rattle.level_location.proofs.Levels.{LevelThere, seek_level, seek_stored, apart, listed_unordered, listed_not_full}
 use Rattle.level_location.proofs.Lists.{next_listed, next_unlisted, next_more, past_lists_more}
 
 -- an array of a level isn't one of a list
@@ -95,7 +95,10 @@ pub ready_off : (s : Statement) (formats : List (List FormatLevel)) (accesses : 
 ready_off s formats accesses o first past a b same r = record {
   letters = r.letters;
   held = λ k p at. held_off (o.levels k) p.tensor 1 first past a b same (r.held k p at);
-  values = λ k p at. same (Values p.tensor) (λ g. g.of) ∙ r.values k p at;
+  values = λ k p at is. same (Values p.tensor) (λ g. g.of) ∙ r.values k p at is;
+  stored = r.stored;
+  none = r.none;
+  sums = r.sums;
 }
 
 -- a list is there, and holds what it held, while its arrays stay
@@ -163,12 +166,13 @@ module _ (s : Statement) (formats : List (List FormatLevel)) (places : Places) (
         let at = place_is places.accesses k within in
         let level = next.0 listed in
         let there = seek_level s formats (o.levels k) seek (depth k) (ready.letters k access) is level in
+        let has_levels = seek_stored s formats (o.levels k) (o.stored k) seek (ready.letters k access) is (ready.none k) in
         let turns : LoopKind → ℕ =
         turns_if (λ span. turns_of Gather ((segment_at (o.levels k) seek.level span).hi - (segment_at (o.levels k) seek.level span).lo))
         (env.cursor k) in
         let most : list_turns s formats gathered o seek env ≡ turns = ap (λ b. if b then turns else no_turns) listed in
         let run = fills_by (o.levels k) (letter_of s formats seek) p.tensor seek.level (depth k) k p.cursor list free (length (o.words k))
-        code c o state (env.cursor k) there level refl gathers (ready.held k p at) (opened k) (keeps.cursors k p at)
+        code c o state (env.cursor k) there level refl gathers (ready.held k p at) (λ q. opened k q has_levels) (keeps.cursors k p at)
         (has list (omega arith) (omega arith)) in
         does_weaker c code state _ _ Never Never run
         (λ t q. (

@@ -1,9 +1,9 @@
 //! What a statement and its formats tell of a level that is sought.
 ghost use Rattle.std.specs.Prelude.{◌≡◌, ◌<◌, length};
 ghost use Rattle.index_notation.specs.Statement.{IsNumbered};
-ghost use Rattle.iteration_graph.specs.Edges.{HasFormat};
 ghost use Rattle.lists.specs.Each.{Each};
 ghost use Rattle.lowering.specs.Layouts.{layout_of};
+ghost use Rattle.lowering.specs.Sums.{SuitsFormats};
 ghost use Rattle.level_location.specs.Walked.{IsLevel, goes_over, is_iterated, is_listed, letter_of};
 
 use format_spec::Format;
@@ -13,7 +13,7 @@ use loop_code::Seek;
 
 /// The kind of the level that is sought.
 pub(crate) fn letter_of(statement: &Statement, formats: &[Format], seek: &Seek) -> Letter
-    requires formats { Each (HasFormat formats.now) statement.now.accesses }
+    requires formats { Each (SuitsFormats formats.now) statement.now.accesses }
     requires level { IsLevel statement.now formats.now seek.now }
     ensures { result ≡ letter_of statement.now formats.now seek.now }
 {
@@ -25,7 +25,7 @@ pub(crate) fn letter_of(statement: &Statement, formats: &[Format], seek: &Seek) 
 /// The variable of the level that is sought.
 pub(crate) fn variable_of(statement: &Statement, formats: &[Format], seek: &Seek) -> usize
     requires numbered { IsNumbered statement.now }
-    requires formats { Each (HasFormat formats.now) statement.now.accesses }
+    requires formats { Each (SuitsFormats formats.now) statement.now.accesses }
     requires level { IsLevel statement.now formats.now seek.now }
     ensures value { result ≡ (layout_of statement.now formats.now).variable seek.now.access seek.now.level }
     ensures within { result < length statement.now.vars }
@@ -49,7 +49,7 @@ pub(crate) fn is_listed(
     gathered: &[usize],
     seek: &Seek,
 ) -> bool
-    requires formats { Each (HasFormat formats.now) statement.now.accesses }
+    requires formats { Each (SuitsFormats formats.now) statement.now.accesses }
     requires level { IsLevel statement.now formats.now seek.now }
     ensures { result ≡ is_listed statement.now formats.now gathered.now seek.now }
 {
@@ -63,7 +63,7 @@ pub(crate) fn goes_over(
     gathered: &[usize],
     seek: &Seek,
 ) -> bool
-    requires formats { Each (HasFormat formats.now) statement.now.accesses }
+    requires formats { Each (SuitsFormats formats.now) statement.now.accesses }
     requires level { IsLevel statement.now formats.now seek.now }
     ensures { result ≡ goes_over statement.now formats.now gathered.now seek.now }
 {

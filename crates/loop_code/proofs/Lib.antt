@@ -1,5 +1,9 @@
+pub mod Alike
 pub mod Equations
 pub mod Merged
+pub mod Opened
+pub mod OpenedLive
 pub mod Parts
 pub mod PresentParts
+pub mod Summed
 pub mod Turns

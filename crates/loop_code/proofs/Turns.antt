@@ -6,12 +6,12 @@ use Rattle.std.proofs.lemmas.Bool.Decides.{nat_tests, eqb_tells}
 use Rattle.level_core.specs.declared.span.Span.{Span}
 use Rattle.level_core.specs.declared.span.Entry.{Entry as LevelEntry}
 use Rattle.tensor_storage.specs.Children.{child_of}
-use Rattle.loop_code.specs.Loops.{Layout, Stored, Env, Seek, LoopCode, Add, Both', Loop', Row_of-LoopCode, end_of-LoopCode}
+use Rattle.loop_code.specs.Loops.{Layout, Stored, Env, Seek, LoopCode, Add, Both', Loop', Sum', Row_of-LoopCode, end_of-LoopCode}
 use Rattle.loop_code.specs.Loops.{more_of-LoopCode, moved}
-use Rattle.loop_code.specs.Parts.{here, is_some, entries_at, remains_below_in, some_has}
+use Rattle.loop_code.specs.Parts.{here, given, is_some, entries_at, remains_below_in, is_live_below_in, some_has}
 use Rattle.loop_code.specs.Turns.{count_below, weight_of, weight_at, repeats, lengths, repeated, repeated_at, is_full_at, turns_at}
 use Rattle.loop_code.specs.Turns.{if_remains, length_at, pruned_in, cost, cost_in, merge_turns, merge_turns_in, dups, dups_in, skip_turns}
-use Rattle.loop_code.specs.Turns.{skip_turns_in}
+use Rattle.loop_code.specs.Turns.{skip_turns_in, summed, if_live}
 
 pub count_plus : (n : ℕ) (f g : ℕ → ℕ) → count_below n (λ i. f i + g i) ≡ count_below n f + count_below n g
 count_plus zero f g = refl
@@ -142,6 +142,14 @@ module _ (layout : Layout) (stored : Stored) (ranges : ℕ → ℕ) where
       by_test true = h (pruned_in layout stored ranges body env)
       by_test false = omega arith
 
+  live_most : {m n : _} (k : ℕ) (inside : Row_of-LoopCode m) (body : Row_of-LoopCode n) (env : Env) (x y : ℕ) → x ≤ y
+      → if_live layout stored ranges k inside body env x ≤ if_live layout stored ranges k inside body env y
+  live_most k inside body env x y h = by (is_live_below_in (given (here env) k (remains_below_in (here env) inside)) body k)
+    where
+      by : (b : Bool) → (if b then x else 0) ≤ (if b then y else 0)
+      by true = h
+      by false = omega arith
+
   mutual
     pub turns_within : (loops : LoopCode) (env : Env) → merge_turns layout stored ranges loops env ≤ cost layout stored ranges loops env
     turns_within (Loop' v seeks p body) env = some_or_none body env
@@ -173,6 +181,11 @@ module _ (layout : Layout) (stored : Stored) (ranges : ℕ → ℕ) where
             omega (arith, entry, all, sum)
     turns_within (Both' p f q g) env = let a = turns_within_in f env in let b = turns_within_in g env in omega (arith, a, b)
     turns_within (Add t) env = omega arith
+    turns_within (Sum' k p inside q body) env =
+        let one = live_most k inside body env (merge_turns_in layout stored ranges inside env) (cost_in layout stored ranges inside env)
+        (turns_within_in inside env) in
+        let two = turns_within_in body (summed layout stored ranges k inside env) in
+        omega (arith, one, two)
 
     pub turns_within_in : {m : _} (row : Row_of-LoopCode m) (env : Env)
         → merge_turns_in layout stored ranges row env ≤ cost_in layout stored ranges row env
@@ -212,6 +225,11 @@ module _ (layout : Layout) (stored : Stored) (ranges : ℕ → ℕ) where
             omega (arith, entry, all, sum)
     skips_within (Both' p f q g) env = let a = skips_within_in f env in let b = skips_within_in g env in omega (arith, a, b)
     skips_within (Add t) env = omega arith
+    skips_within (Sum' k p inside q body) env =
+        let one = live_most k inside body env (skip_turns_in layout stored ranges inside env) (dups_in layout stored ranges inside env)
+        (skips_within_in inside env) in
+        let two = skips_within_in body (summed layout stored ranges k inside env) in
+        omega (arith, one, two)
 
     pub skips_within_in : {m : _} (row : Row_of-LoopCode m) (env : Env)
         → skip_turns_in layout stored ranges row env ≤ dups_in layout stored ranges row env

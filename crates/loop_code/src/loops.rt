@@ -28,4 +28,11 @@ pub enum LoopCode {
     Both(Boxed<LoopCode>, Boxed<LoopCode>),
     /// A term is added where it is present, at the coordinates of the loops around it.
     Add(Term),
+    /// The rows that `inside` adds, which have no coordinates, are summed. Then the body is done, in which the access of this number, no
+    /// level of which any loop finds, has their sum as its value, and is absent where there is no row.
+    Sum {
+        sum: usize,
+        inside: Boxed<LoopCode>,
+        body: Boxed<LoopCode>,
+    },
 }

@@ -9,11 +9,12 @@ use Rattle.index_notation.specs.declared.operator.Operator.TheVariants as op
 use Rattle.index_notation.specs.declared.syntax.Expr.{Expr}
 use Rattle.index_notation.specs.Operators.{is_product, is_there}
 use Rattle.loop_code.specs.Loops.{Env}
-use Rattle.loop_code.specs.Parts.{here, remains}
+use Rattle.loop_code.specs.Parts.{remains}
 use Rattle.term_code.specs.declared.places.Places.{Places}
 use Rattle.term_code.specs.Places.{Keeps}
 use Rattle.term_code.specs.Presence.{Tells}
 use Rattle.term_code.proofs.PresenceLaws.{tells_either, tells_both}
+use Rattle.loop_flags.specs.Told.{Told}
 use Rattle.loop_flags.specs.Flags.{TellsEither, TellsBoth, TellsThere, TellsFactor, TellsSides}
 
 pub if_flag : {E A : Type 0} (r : Result A E) (P Q : A → Type 0) → ((x : A) → P x → Q x) → IfOk r P → IfOk r Q
@@ -154,42 +155,44 @@ either_is false false true b f g = absurd (cc (f refl))
 either_is false false false true f g = absurd (cc (g refl))
 either_is false false false false f g = refl
 
-module _ (places : Places) (e f : Expr) (x y : KExpr) where
-  either_of_sum : (flag : KExpr) → TellsEither x y flag → TellsSides places op.Add e f x y flag
-  either_of_sum flag w g h is in_it one two =
+module _ (places : Places) (told : List Told) (e f : Expr) (x y : KExpr) where
+  either_of_sum : (flag : KExpr) → TellsEither x y flag → TellsSides places told op.Add e f x y flag
+  either_of_sum flag w P are g h is in_it one two =
       tells_kept places (λ env. g env || h env)
-      (λ env. (remains (here env) e || remains (here env) f) && (g env || h env)) flag
-      (λ bound env s at. either_is (remains (here env) e) (remains (here env) f) (g env) (h env) (is env) (in_it env))
+      (λ env. (remains (P env) e || remains (P env) f) && (g env || h env)) flag
+      (λ bound env s at. either_is (remains (P env) e) (remains (P env) f) (g env) (h env) (is env) (in_it env))
       (w places g h one two)
 
-  pub either_of_sides : (o : Operator) (flag : KExpr) → is_product o ≡ false → TellsEither x y flag → TellsSides places o e f x y flag
+  pub either_of_sides : (o : Operator) (flag : KExpr) → is_product o ≡ false → TellsEither x y flag
+      → TellsSides places told o e f x y flag
   either_of_sides op.Add flag n w = either_of_sum flag w
   either_of_sides op.Sub flag n w = either_of_sum flag w
   either_of_sides op.Mul flag n w = absurd (cc n)
 
-  pub first_of_product : (flag : KExpr) → y ≡ Num 0 → TellsFactor places x f flag → TellsSides places op.Mul e f x y flag
-  first_of_product flag zero w g h is in_it one none =
-      tells_kept places (λ env. g env && remains (here env) f)
-      (λ env. (remains (here env) e && remains (here env) f) && (g env || h env)) flag
-      (λ bound env s at. first_is (remains (here env) e) (remains (here env) f) (g env) (h env) (is env)
+  pub first_of_product : (flag : KExpr) → y ≡ Num 0 → TellsFactor places told x f flag → TellsSides places told op.Mul e f x y flag
+  first_of_product flag zero w P are g h is in_it one none =
+      tells_kept places (λ env. g env && remains (P env) f)
+      (λ env. (remains (P env) e && remains (P env) f) && (g env || h env)) flag
+      (λ bound env s at. first_is (remains (P env) e) (remains (P env) f) (g env) (h env) (is env)
       (never_so places h y zero none bound env s at))
-      (w g one)
+      (w P are g one)
 
-  pub second_of_product : (flag : KExpr) → x ≡ Num 0 → TellsFactor places y e flag → TellsSides places op.Mul e f x y flag
-  second_of_product flag zero w g h is in_it none one =
-      tells_kept places (λ env. h env && remains (here env) e)
-      (λ env. (remains (here env) e && remains (here env) f) && (g env || h env)) flag
-      (λ bound env s at. second_is (remains (here env) e) (remains (here env) f) (g env) (h env) (in_it env)
+  pub second_of_product : (flag : KExpr) → x ≡ Num 0 → TellsFactor places told y e flag → TellsSides places told op.Mul e f x y flag
+  second_of_product flag zero w P are g h is in_it none one =
+      tells_kept places (λ env. h env && remains (P env) e)
+      (λ env. (remains (P env) e && remains (P env) f) && (g env || h env)) flag
+      (λ bound env s at. second_is (remains (P env) e) (remains (P env) f) (g env) (h env) (in_it env)
       (never_so places g x zero none bound env s at))
-      (w h one)
+      (w P are h one)
 
-  pub both_of_product : (one left flag : KExpr) → TellsEither x y one → TellsFactor places one e left → TellsFactor places left f flag
-      → TellsSides places op.Mul e f x y flag
-  both_of_product one left flag u w v g h is in_it in_first in_second =
-      tells_kept places (λ env. ((g env || h env) && remains (here env) e) && remains (here env) f)
-      (λ env. (remains (here env) e && remains (here env) f) && (g env || h env)) flag
-      (λ bound env s at. both_are (remains (here env) e) (remains (here env) f) (g env) (h env))
-      (v (λ env. (g env || h env) && remains (here env) e) (w (λ env. g env || h env) (u places g h in_first in_second)))
+  pub both_of_product : (one left flag : KExpr) → TellsEither x y one → TellsFactor places told one e left
+      → TellsFactor places told left f flag → TellsSides places told op.Mul e f x y flag
+  both_of_product one left flag u w v P are g h is in_it in_first in_second =
+      tells_kept places (λ env. ((g env || h env) && remains (P env) e) && remains (P env) f)
+      (λ env. (remains (P env) e && remains (P env) f) && (g env || h env)) flag
+      (λ bound env s at. both_are (remains (P env) e) (remains (P env) f) (g env) (h env))
+      (v P are (λ env. (g env || h env) && remains (P env) e)
+      (w P are (λ env. g env || h env) (u places g h in_first in_second)))
 
 -- what flags of the parts that were read of a whole tell of the whole
 module _ {X : Type 0} (places : Places) (V : X → Env → Bool) where

@@ -1,6 +1,6 @@
 -- What code that prunes does, one access after another.
-use Rattle.std.specs.Prelude.{◌≡◌, ◌≢◌, ℕ, ◌+◌, ◌≤◌, ◌<◌, nat_eq, nat_lt, Bool, true, false, if◌then◌else◌, List, [], ◌∷◌, ◌++◌, length}
-use Rattle.std.specs.Prelude.{Option, Some, None, slice_get, refl}
+use Rattle.std.specs.Prelude.{◌≡◌, ◌≢◌, ℕ, ◌+◌, ◌≤◌, ◌<◌, nat_eq, nat_lt, Bool, true, false, ◌&&◌, if◌then◌else◌, List, [], ◌∷◌, ◌++◌}
+use Rattle.std.specs.Prelude.{length, Option, Some, None, slice_get, refl}
 use Rattle.std.proofs.Common.{◌∙◌, sym, ap, subst, arith, inl, inr}
 use Rattle.std.proofs.lemmas.Bool.Decides.{nat_tests, eqb_tells}
 use Rattle.std.proofs.lemmas.Option.{slice_get_within}
@@ -17,7 +17,7 @@ use Rattle.level_cursors.specs.Children.{ChildLeft}
 use Rattle.loop_code.specs.Loops.{Env, at_cursor as moved_cursor}
 use Rattle.loop_code.specs.declared.loops.LoopCode.{LoopCode}
 use Rattle.loop_code.specs.Parts.{here, is_some, is_live_below, remains_below, pruned}
-use Rattle.operand_arrays.specs.Apart.{AreFrom}
+use Rattle.operand_arrays.specs.Apart.{AreOutside}
 use Rattle.term_code.specs.declared.places.Places.{Places}
 use Rattle.term_code.specs.declared.places.AccessPlace.{AccessPlace}
 use Rattle.term_code.specs.Places.{AreBelow, Keeps}
@@ -26,11 +26,10 @@ use Rattle.term_code.proofs.PlaceLaws.{below_more, keeps_kept, keeps_cursor}
 use Rattle.term_code.proofs.OptionLaws.{nothing_read}
 use Rattle.loop_flags.specs.declared.partly.Partly.{Partly}
 use Rattle.loop_flags.specs.Liveness.{StaysBelow}
-use Rattle.loop_flags.specs.Pruned.{Prunes, tensors_of}
+use Rattle.loop_flags.specs.Pruned.{Prunes, unplaced}
 use Rattle.loop_flags.specs.PrunedSteps.{PrunesFirst, first_pruned, copy_code, with_cursor, with_none, with_copy, finished}
 use Rattle.loop_flags.proofs.FlagLaws.{never_so}
-use Rattle.loop_flags.proofs.LiveLaws.{live_here_below}
-use Rattle.loop_flags.proofs.PlacesSet.{tensors_set, length_set, below_set, from_set}
+use Rattle.loop_flags.proofs.PlacesSet.{accesses_set, length_set, below_set, from_set}
 
 -- one after another, the second over variables further on
 then_reads : (c : Setting) (first second : List KStmt) (free more : ℕ) (s : State) (P Q : State → Type 0) → free ≤ more
@@ -136,8 +135,21 @@ module _ (loops : LoopCode) (env : Env) where
       by_cursor (Some span) is =
           sym (ap (λ b. if b then Some span else None) (h (here env) rem (ap is_some is)))
 
-  live_some : (k : ℕ) → is_live_below (here env) loops k ≡ true → is_some (env.cursor k) ≡ true
-  live_some k h = live_here_below (here env) loops k h
+  -- an access that is live and present
+  both_so : (b : Bool) (o : Option Span) → (b && is_some o) ≡ true → is_some o ≡ true
+  both_so true o h = h
+  both_so false o h = absurd (cc h)
+
+  live_some : (k : ℕ) → (is_live_below (here env) loops k && here env k) ≡ true → is_some (env.cursor k) ≡ true
+  live_some k h = both_so (is_live_below (here env) loops k) (env.cursor k) h
+
+  present_is : (k : ℕ) → (if is_live_below (here env) loops k && here env k then env.cursor k else None) ≡ (pruned loops env).cursor k
+  present_is k = by (is_live_below (here env) loops k) (env.cursor k)
+    where
+      by : (b : Bool) (o : Option Span) → (if b && is_some o then o else None) ≡ (if b then o else None)
+      by true None = refl
+      by true (Some span) = refl
+      by false o = refl
 
   equal : (i k : ℕ) → i ≡ k → nat_eq i k ≡ true
   equal i k h = grind (arith, nat_tests, h)
@@ -164,10 +176,10 @@ module _ (places : Places) (loops : LoopCode) where
     kept = are;
     below = subst (AreBelow (free + 3)) (sym is) (below_more free (free + 3) places (omega arith) are);
     more = omega arith;
-    from = λ low le h. subst (AreFrom low) (sym is) h;
+    from = λ least low le h. subst (AreOutside least low) (sym is) h;
     variables = ap (λ (q : Places). q.variables) is;
     many = ap (λ (q : Places). length q.accesses) is;
-    tensors = ap (λ (q : Places). tensors_of q.accesses) is;
+    accesses = ap (λ (q : Places). unplaced q.accesses) is;
   }
     where
       none : (k : ℕ) (env : Env) → (first_pruned 0 loops env).cursor k ≡ env.cursor k
@@ -192,7 +204,7 @@ module _ (places : Places) (loops : LoopCode) where
       from = h.from;
       variables = h.variables;
       many = h.many;
-      tensors = h.tensors;
+      accesses = h.accesses;
     }
 
     pub none_step : (flag : KExpr) → i < length places.accesses → flag ≡ Num 0
@@ -206,10 +218,10 @@ module _ (places : Places) (loops : LoopCode) where
       kept = h.kept;
       below = below_set p.free p.free p.places i p.zero (omega arith) h.more h.below;
       more = h.more;
-      from = λ low le are. from_set low p.places i p.zero le (h.from low le are);
+      from = λ least low le are. from_set least low p.places i p.zero le (h.from least low le are);
       variables = h.variables;
       many = length_set p.places.accesses i p.zero ∙ h.many;
-      tensors = tensors_set p.places.accesses i p.zero ∙ h.tensors;
+      accesses = accesses_set p.places.accesses i p.zero ∙ h.accesses;
     }
       where
         nowhere : (bound : List ℕ) (env : Env) (s : State) → Keeps places bound env s → None ≡ (pruned loops env).cursor i
@@ -218,7 +230,8 @@ module _ (places : Places) (loops : LoopCode) where
             (never_so places (λ env. is_live_below (here env) loops i) flag zero_is tells bound env s keeps))
 
     pub copy_step : (q : AccessPlace) (flag : KExpr) → slice_get places.accesses i ≡ Some q
-        → Tells places (λ env. is_live_below (here env) loops i) flag → PrunesFirst places loops (i + 1) (with_copy p i flag q.cursor)
+        → Tells places (λ env. is_live_below (here env) loops i && here env i) flag
+        → PrunesFirst places loops (i + 1) (with_copy p i flag q.cursor)
     copy_step q flag at tells = record {
       leaves = λ c bound env s rem keeps zero. then_reads c p.code (copy_code flag q.cursor p.free) (p.zero + 3) p.free s _ _ h.more
           (h.leaves c bound env s rem keeps zero)
@@ -227,10 +240,10 @@ module _ (places : Places) (loops : LoopCode) where
       kept = h.kept;
       below = below_set p.free (p.free + 3) p.places i p.free (omega arith) (omega arith) h.below;
       more = let m = h.more in omega (arith, m);
-      from = λ low le are. let m = h.more in from_set low p.places i p.free (omega (arith, m, le)) (h.from low le are);
+      from = λ least low le are. let m = h.more in from_set least low p.places i p.free (omega (arith, m, le)) (h.from least low le are);
       variables = h.variables;
       many = length_set p.places.accesses i p.free ∙ h.many;
-      tensors = tensors_set p.places.accesses i p.free ∙ h.tensors;
+      accesses = accesses_set p.places.accesses i p.free ∙ h.accesses;
     }
       where
         low : q.cursor + 3 ≤ p.free
@@ -245,13 +258,14 @@ module _ (places : Places) (loops : LoopCode) where
             (Keeps (with_cursor p.places i p.free) bound (first_pruned (i + 1) loops env))
         copied c bound env t keeps k =
             more_said c (copy_code flag q.cursor p.free) p.free t _ _
-            (copy_does c flag q.cursor p.free (is_live_below (here env) loops i) (env.cursor i) t low (tells.told bound env t keeps)
-            (live_some loops env i) (keeps.cursors i q at))
+            (copy_does c flag q.cursor p.free (is_live_below (here env) loops i && here env i) (env.cursor i) t low
+            (tells.told bound env t keeps) (live_some loops env i) (keeps.cursors i q at))
             (λ u l left. keeps_same (with_cursor p.places i p.free) bound
             (moved_cursor (first_pruned i loops env) i ((pruned loops env).cursor i)) (first_pruned (i + 1) loops env) u refl
             (λ j r there. moved_next loops env i ((pruned loops env).cursor i) refl j)
             (keeps_cursor p.places bound (first_pruned i loops env) u i p.free ((pruned loops env).cursor i) within
-            (keeps_kept p.free p.places bound (first_pruned i loops env) t u h.below (λ y b. l.below y b (λ z. z)) k) left))
+            (keeps_kept p.free p.places bound (first_pruned i loops env) t u h.below (λ y b. l.below y b (λ z. z)) k)
+            (subst (λ o. ChildLeft p.free o u) (present_is loops env i) left)))
 
   -- all accesses are pruned
   all_keeps : (p : Partly) (bound : List ℕ) (env : Env) (t : State) → length p.places.accesses ≡ length places.accesses
@@ -278,7 +292,7 @@ module _ (places : Places) (loops : LoopCode) where
     more = let m = h.more in omega (arith, m);
     from = h.from;
     variables = h.variables;
-    tensors = h.tensors;
+    accesses = h.accesses;
   }
     where
       by_used : (b : Bool) → p.left_out ≡ b → (c : Setting) (bound : List ℕ) (env : Env) (s : State)

@@ -10,7 +10,8 @@ mod partly;
 mod pruning;
 mod remaining;
 mod staying;
+mod told;
 
-pub use liveness::live_flag;
+pub use liveness::{live_flag, sum_flag};
 pub use pruning::{Pruned, prune};
 pub use remaining::{fullness_below, remains_of};

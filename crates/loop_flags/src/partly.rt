@@ -2,15 +2,15 @@
 ghost use Rattle.std.specs.Prelude.{◌≡◌, ◌+◌, ◌<◌, ◌≤◌, ◌^◌, ◌++◌, true, length, IfOk, OnOk};
 ghost use Rattle.loop_code.specs.Places.{EachAccess};
 ghost use Rattle.operand_arrays.specs.Terms.{EachTerm};
-ghost use Rattle.loop_flags.specs.PrunedSteps.{PrunesFirst, copy_code, with_none, with_copy};
+ghost use Rattle.loop_flags.specs.PrunedSteps.{IsPresentFlag, PrunesFirst, copy_code, with_none, with_copy};
 
-use crate::flags::is_number;
+use crate::flags::{both, is_number};
 use crate::liveness::live_flag;
-use crate::staying::stays_below;
+use crate::staying::{starts_no_sum, stays_below};
 use kernel_code::{KExpr, KStmt, one_statement};
 use loop_code::LoopCode;
 use std::alloc::{AllocError, Global};
-use term_code::Places;
+use term_code::{AccessPlace, Places};
 use trees::Items;
 
 /// New places of the accesses, the code that leaves them, and the first variable that is free behind them. The variable `zero`
@@ -22,6 +22,24 @@ pub(crate) struct Partly {
     pub(crate) zero: u64,
     pub(crate) free: u64,
     pub(crate) left_out: bool,
+}
+
+/// The flag of a live access, `flag`, where it is present besides: the access of a sum that starts below may be live and not be present
+/// before.
+fn present_flag(
+    alloc: Global,
+    loops: &LoopCode,
+    access: usize,
+    place: AccessPlace,
+    flag: KExpr,
+) -> Result<KExpr, AllocError>
+    ensures { IfOk result (IsPresentFlag loops.now access place flag) }
+{
+    if starts_no_sum(loops, access) {
+        return Ok(flag);
+    }
+    let present = both(alloc, flag, KExpr::Var(place.cursor))?;
+    Ok(present)
 }
 
 /// Code that leaves, in three variables from `free` on, a copy of those from `cursor` on where the flag is 1, and else 0.
@@ -100,7 +118,8 @@ impl Partly {
             return Ok(());
         }
         let place = places.accesses.as_slice()[access];
-        self.copy_one(alloc, access, flag, place.cursor)?;
+        let present = present_flag(alloc, loops, access, place, flag)?;
+        self.copy_one(alloc, access, present, place.cursor)?;
         Ok(())
     }
 }

@@ -1,6 +1,7 @@
 //! Accesses that stand in the part of the terms below that remains wherever they are present, so that they are never left out
 //! alone.
 ghost use Rattle.std.specs.Prelude.{◌≡◌, true};
+ghost use Rattle.loop_code.specs.Opened.{HasNoSum};
 ghost use Rattle.loop_flags.specs.Liveness.{StandsAlone, StaysIn, StandsAloneBelow, StaysBelow};
 
 use index_notation::Expr;
@@ -54,6 +55,9 @@ fn stands_alone_below(loops: &LoopCode, access: usize) -> bool
             stands_alone_below(first.get(), access) || stands_alone_below(second.get(), access)
         }
         LoopCode::Add(term) => stands_alone(&term.expr, access),
+        LoopCode::Sum { sum, body, .. } => {
+            *sum != access && stands_alone_below(body.get(), access)
+        }
     }
 }
 
@@ -70,5 +74,31 @@ pub(crate) fn stays_below(loops: &LoopCode, access: usize) -> bool
             stays_below(first.get(), access) && stays_below(second.get(), access)
         }
         LoopCode::Add(term) => stays_in(&term.expr, access),
+        LoopCode::Sum { sum, inside, body } => {
+            let body = body.get();
+            if *sum != access && stays_below(body, access) {
+                return true;
+            }
+            stands_alone_below(inside.get(), access) && stays_below(body, *sum)
+        }
+    }
+}
+
+/// Whether no sum below is the one that is read as this access.
+pub(crate) fn starts_no_sum(loops: &LoopCode, access: usize) -> bool
+    ensures { result ≡ true → HasNoSum access loops.now }
+{
+    match loops {
+        LoopCode::Loop { body, .. } => starts_no_sum(body.get(), access),
+        LoopCode::Both(first, second) => {
+            starts_no_sum(first.get(), access) && starts_no_sum(second.get(), access)
+        }
+        LoopCode::Add(_) => true,
+        LoopCode::Sum { sum, inside, body } => {
+            if *sum == access {
+                return false;
+            }
+            starts_no_sum(inside.get(), access) && starts_no_sum(body.get(), access)
+        }
     }
 }

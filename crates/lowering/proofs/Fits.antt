@@ -1,7 +1,7 @@
 -- In a loop order each term fits its loops.
 use Rattle.std.specs.Prelude.{◌≡◌, ◌≢◌, ◌⊎◌, ℕ, zero, suc, ◌+◌, ◌≤◌, ◌<◌, ◌==◌, nat_eq, Bool, true, false, not, ◌||◌}
 use Rattle.std.specs.Prelude.{◌&&◌, cond, if◌then◌else◌, List, [], ◌∷◌, ◌++◌, length}
-use Rattle.std.specs.Prelude.{map, filter, take, All, Some, slice_get, slice_index, slice_index_or, refl}
+use Rattle.std.specs.Prelude.{map, filter, take, All, Some, None, slice_get, slice_index, slice_index_or, refl}
 use Rattle.std.specs.List.{list_any, list_all}
 use Rattle.std.proofs.Common.{◌∙◌, sym, ap, subst, arith, inl, inr}
 use Rattle.std.proofs.lemmas.Bool.Decides.{nat_tests}
@@ -15,33 +15,34 @@ use Rattle.index_notation.specs.Statement.{IsDistinct, IsNumbered, IsRead, Acces
 use Rattle.index_notation.specs.declared.syntax.Access.{Access}
 use Rattle.index_notation.specs.declared.syntax.Expr.{Expr, Num, Access as AccessOf, Binary', Neg', Row_of-Expr, end_of-Expr, more_of-Expr}
 use Rattle.index_notation.specs.declared.syntax.Statement.{Statement}
-use Rattle.iteration_graph.specs.Edges.{AreFormed, HasFormat, neighbours, by_level, access_edges, format_of, edges_of, statement_edges}
+use Rattle.iteration_graph.specs.Edges.{AreFormed, neighbours, by_level, access_edges, format_of, edges_of, statement_edges}
 use Rattle.iteration_graph.specs.Graphs.{IsLoopOrder, is_among, leads, has_edge}
 use Rattle.iteration_graph.proofs.OrderLaws.{each_forward}
 use Rattle.lists.specs.Each.{Each}
-use Rattle.expr_terms.specs.Terms.{terms, terms_in, contains, is_at_access, stands_in, stands_inside, own_variables, is_own}
+use Rattle.expr_terms.specs.Terms.{terms, terms_in, contains, is_at_access, stands_in, own_variables, is_own}
 use Rattle.expr_terms.proofs.TermLaws.{each_negated, each_of_sides}
 use Rattle.expr_terms.specs.declared.term.Term.{Term}
 use Rattle.concrete_notation.specs.declared.concrete.Concrete.{Concrete}
 use Rattle.concrete_notation.specs.Nests.{Nest, IsOrderOf, loops_of, nest_of, nests}
 use Rattle.concrete_notation.proofs.Orders.{is_order_of}
 use Rattle.concrete_notation.proofs.Points.{contains_both, contains_filtered, each_contained}
-use Rattle.loop_code.specs.Places.{EachAccess, EachAccess_in}
+use Rattle.loop_code.specs.declared.loops.LoopCode.{LoopCode}
+use Rattle.loop_code.specs.Places.{EachAccess}
 use Rattle.lowering.specs.Layouts.{levels_of, variables_of}
 use Rattle.lowering.specs.Lowered.{IsInOrder}
-use Rattle.lowering.specs.Seeking.{has_access, has_access_in, reached}
-use Rattle.lowering.specs.Shapes.{MayLoop, Fits, AllFit, variables_at}
+use Rattle.lowering.specs.Seeking.{has_access, reached}
+use Rattle.lowering.specs.Shapes.{Allows, AreGood, MayLoop, Fits, AllFit, IsLowered, variables_at}
+use Rattle.lowering.specs.Starts.{StartsInPlace}
+use Rattle.lowering.specs.Sums.{AreInner, HasSums, SuitsFormats, are_bound, first_sum, reads, stands_before, sum_at, vars_at, vars_of}
+use Rattle.lowering.specs.Wrapped.{wrapped}
+use Rattle.lowering.proofs.Accesses.{each_access, or_left, or_right}
 use Rattle.lowering.proofs.Reached.{reached_bound, reached_stops, reached_within}
-use Rattle.lowering.proofs.Shapes.{each_access, number_in, or_left, or_right}
+use Rattle.lowering.proofs.Shapes.{root_good, root_in_place}
+use Rattle.lowering.proofs.Standing.{all_bound, number_in, one_bound, same_by, self_test, stands_by}
+use Rattle.lowering.proofs.Through.{sum_of_list, under_in}
 
 clash : (b : Bool) → b ≡ true → b ≡ false → ⊥
 clash b h g = cc
-
-self_test : (n : ℕ) → nat_eq n n ≡ true
-self_test n = grind (arith, nat_tests)
-
-same_by : (a b : ℕ) → nat_eq a b ≡ true → a ≡ b
-same_by a b h = grind (arith, nat_tests, h)
 
 or_split : (b c : Bool) → (b || c) ≡ true → (b ≡ true) ⊎ (c ≡ true)
 or_split true c h = inl refl
@@ -62,36 +63,6 @@ mutual
       → Each (λ (t : Term). EachAccess (λ k. k < n) t.expr) (terms_in row)
   terms_under_in n end_of-Expr h = tt
   terms_under_in n (more_of-Expr e rest) h = terms_under n e h
-
-  under : (n : ℕ) (e : Expr) → AccessesUnder n e → EachAccess (λ k. k < n) e
-  under n (Num k) h = tt
-  under n (AccessOf k) h = h
-  under n (Binary' o p e q f) h = (under_in n e h.0, under_in n f h.1)
-  under n (Neg' p e) h = under_in n e h
-
-  under_in : {m : _} (n : ℕ) (row : Row_of-Expr m) → AccessesUnder_in n row → EachAccess_in (λ k. k < n) row
-  under_in n end_of-Expr h = tt
-  under_in n (more_of-Expr e rest) h = under n e h
-
-stands_either : (b c x y : Bool) → (b || c) ≡ true → (b ≡ true → x ≡ true) → (c ≡ true → y ≡ true) → (x || y) ≡ true
-stands_either true c x y h f g = or_left x y (f refl)
-stands_either false c x y h f g = or_right x y (g h)
-
-mutual
-  -- a variable of an access that stands in an expression stands there
-  stands_by : (accesses : List Access) (v k : ℕ) (e : Expr) → has_access e k ≡ true → is_at_access v (slice_get accesses k) ≡ true
-      → stands_in accesses v e ≡ true
-  stands_by accesses v k (Num n) h is = absurd (cc h)
-  stands_by accesses v k (AccessOf j) h is = ap (λ i. is_at_access v (slice_get accesses i)) (same_by j k h) ∙ is
-  stands_by accesses v k (Binary' o p e q f) h is =
-      stands_either (has_access_in e k) (has_access_in f k) (stands_inside accesses v e) (stands_inside accesses v f) h
-      (λ g. stands_by_in accesses v k e g is) (λ g. stands_by_in accesses v k f g is)
-  stands_by accesses v k (Neg' p e) h is = stands_by_in accesses v k e h is
-
-  stands_by_in : {m : _} (accesses : List Access) (v k : ℕ) (row : Row_of-Expr m) → has_access_in row k ≡ true
-      → is_at_access v (slice_get accesses k) ≡ true → stands_inside accesses v row ≡ true
-  stands_by_in accesses v k end_of-Expr h is = absurd (cc h)
-  stands_by_in accesses v k (more_of-Expr e rest) h is = stands_by accesses v k e h is
 
 -- where each of some variables is bound all are reached
 reached_all : (bound ws : List ℕ) → Each (λ w. contains bound w ≡ true) ws → reached bound ws ≡ length ws
@@ -182,8 +153,102 @@ in_accesses formats (a ∷ accesses) (suc k) access f h any =
     any_second f (access_edges (format_of formats a.tensor) a.vars) (edges_of formats accesses)
     (in_accesses formats accesses k access f h any)
 
+-- what stands before a variable in an order
+before_by : (done rest : List ℕ) (w v : ℕ) → contains done w ≡ true → stands_before (done ++ v ∷ rest) w v ≡ true
+before_by [] rest w v h = absurd (cc h)
+before_by (x ∷ done) rest w v h = by (nat_eq x w) h (before_by done rest w v)
+  where
+    there : (done : List ℕ) → contains (done ++ v ∷ rest) v ≡ true
+    there [] = or_left (nat_eq v v) (contains rest v) (self_test v)
+    there (y ∷ done) = or_right (nat_eq y v) (contains (done ++ v ∷ rest) v) (there done)
+
+    by : (b : Bool) → (b || contains done w) ≡ true → (contains done w ≡ true → stands_before (done ++ v ∷ rest) w v ≡ true)
+        → (if b then contains (done ++ v ∷ rest) v else stands_before (done ++ v ∷ rest) w v) ≡ true
+    by true h more = there done
+    by false h more = more h
+
+behind_there : (xs : List ℕ) (w v : ℕ) → stands_before xs w v ≡ true → contains xs v ≡ true
+behind_there [] w v h = absurd (cc h)
+behind_there (x ∷ xs) w v h = or_right (nat_eq x v) (contains xs v) (by (nat_eq x w) h (behind_there xs w v))
+  where
+    by : (b : Bool) → (if b then contains xs v else stands_before xs w v) ≡ true
+        → (stands_before xs w v ≡ true → contains xs v ≡ true) → contains xs v ≡ true
+    by true h more = h
+    by false h more = more h
+
+not_there : (x : ℕ) (xs : List ℕ) → Each (λ y. x ≢ y) xs → contains xs x ≡ false
+not_there x [] h = refl
+not_there x (y ∷ xs) h = let other : nat_eq y x ≡ false = test_apart x y h.0 in ap (λ b. b || contains xs x) other ∙ not_there x xs h.1
+  where
+    test_apart : (a b : ℕ) → a ≢ b → nat_eq b a ≡ false
+    test_apart a b h = grind (arith, nat_tests, h)
+
+-- no variable stands before itself, where none stands twice
+none_before : (xs : List ℕ) → IsDistinct xs → (v : ℕ) → stands_before xs v v ≡ false
+none_before [] once v = refl
+none_before (x ∷ xs) once v = by (nat_eq x v) (same_by x v) (none_before xs once.1 v)
+  where
+    by : (b : Bool) → (b ≡ true → x ≡ v) → stands_before xs v v ≡ false → (if b then contains xs v else stands_before xs v v) ≡ false
+    by true same more = ap (contains xs) (sym (same refl)) ∙ not_there x xs once.0
+    by false same more = more
+
+-- what stands before what stands before another stands before that
+before_all : (xs : List ℕ) → IsDistinct xs → (u v w : ℕ) → stands_before xs u v ≡ true → stands_before xs v w ≡ true
+    → stands_before xs u w ≡ true
+before_all [] once u v w h g = absurd (cc h)
+before_all (x ∷ xs) once u v w h g = by (nat_eq x u) (nat_eq x v) (same_by x v) (before_all xs once.1 u v w) h g
+  where
+    by : (b c : Bool) → (c ≡ true → x ≡ v)
+        → (stands_before xs u v ≡ true → stands_before xs v w ≡ true → stands_before xs u w ≡ true)
+        → (if b then contains xs v else stands_before xs u v) ≡ true
+        → (if c then contains xs w else stands_before xs v w) ≡ true → (if b then contains xs w else stands_before xs u w) ≡ true
+    by true true same more h g = g
+    by true false same more h g = behind_there xs v w g
+    by false true same more h g =
+        absurd (clash (contains xs v) (behind_there xs u v h) (ap (contains xs) (sym (same refl)) ∙ not_there x xs once.0))
+    by false false same more h g = more h g
+
+-- an order up to a variable and behind it
+record Split (order : List ℕ) (v : ℕ) : Type 0 where
+  done : List ℕ
+  rest : List ℕ
+  all : order ≡ done ++ v ∷ rest
+  before : (w : ℕ) → stands_before order w v ≡ true → contains done w ≡ true
+
+split_at : (order : List ℕ) → IsDistinct order → (v : ℕ) → contains order v ≡ true → Split order v
+split_at [] once v h = absurd (cc h)
+split_at (x ∷ xs) once v h = by (nat_eq x v) (same_by x v) h (split_at xs once.1 v)
+  where
+    first : x ≡ v → Split (x ∷ xs) v
+    first same = record {
+      done = [];
+      rest = xs;
+      all = ap (λ y. y ∷ xs) same;
+      before = λ w g. absurd (clash (contains xs v) (none w (nat_eq x w) g) (ap (contains xs) (sym same) ∙ not_there x xs once.0));
+    }
+      where
+        none : (w : ℕ) (b : Bool) → (if b then contains xs v else stands_before xs w v) ≡ true → contains xs v ≡ true
+        none w true g = g
+        none w false g = behind_there xs w v g
+
+    later : Split xs v → Split (x ∷ xs) v
+    later s = record {
+      done = x ∷ s.done;
+      rest = s.rest;
+      all = ap (λ ys. x ∷ ys) s.all;
+      before = λ w g. at w (nat_eq x w) g;
+    }
+      where
+        at : (w : ℕ) (b : Bool) → (if b then contains xs v else stands_before xs w v) ≡ true → (b || contains s.done w) ≡ true
+        at w true g = refl
+        at w false g = s.before w g
+
+    by : (b : Bool) → (b ≡ true → x ≡ v) → (b || contains xs v) ≡ true → (contains xs v ≡ true → Split xs v) → Split (x ∷ xs) v
+    by true same h more = first (same refl)
+    by false same h more = later (more h)
+
 module _ (s : Statement) (formats : List (List FormatLevel)) (numbered : IsNumbered s) (formed : AreFormed formats s.accesses)
-    (orders : Each (HasFormat formats) s.accesses) where
+    (orders : Each (SuitsFormats formats) s.accesses) where
   -- what is so of each access is so of the one with a number
   of_number : (P : Access → Type 0) (accesses : List Access) (k : ℕ) (access : Access) → Each P accesses
       → slice_get accesses k ≡ Some access → P access
@@ -210,49 +275,45 @@ module _ (s : Statement) (formats : List (List FormatLevel)) (numbered : IsNumbe
   all_each n [] h = tt
   all_each n (m ∷ modes) h = (h 0 0 (omega arith), all_each n modes (λ k d l. h (suc k) d (omega (arith, l))))
 
-  vars_of : (access : Access) → IsFormat (format_of formats access.tensor) → length (format_of formats access.tensor) ≡ length access.vars
+  own_vars : (access : Access) → IsFormat (format_of formats access.tensor) → length (format_of formats access.tensor) ≡ length access.vars
       → Each (λ w. contains access.vars w ≡ true) (by_level (format_of formats access.tensor) access.vars)
-  vars_of access format long =
+  own_vars access format long =
       each_mapped access.vars (modes_of (format_of formats access.tensor))
       (subst (λ n. Each (λ mode. mode < n) (modes_of (format_of formats access.tensor))) long
       (all_each (length (format_of formats access.tensor)) (modes_of (format_of formats access.tensor)) format.order.below))
 
-  module _ (order : List ℕ) (placed : IsLoopOrder (length s.vars) (statement_edges s formats) order) (t : Term) where
+  less_or_not : (a b : ℕ) → (a < b) ⊎ (b ≤ a)
+  less_or_not a b = grind arith
+
+  outside : (xs : List (List FormatLevel)) (i : ℕ) → length xs ≤ i → slice_index_or xs i [] ≡ []
+  outside [] i h = refl
+  outside (x ∷ xs) zero h = absurd (omega (arith, h))
+  outside (x ∷ xs) (suc i) h = outside xs i (omega (arith, h))
+
+  module _ (order : List ℕ) (placed : IsLoopOrder (length s.vars) (statement_edges s formats) order) where
     ordered : IsOrderOf (length s.vars) order
     ordered = is_order_of (length s.vars) (statement_edges s formats) order placed
 
-    abbrev around : ℕ → Bool
-    around v = contains s.left.vars v || contains (own_variables s t) v
-
-    -- the variables of the term's accesses have loops around it
-    module _ (k : ℕ) (access : Access) (has : has_access t.expr k ≡ true) (is : slice_get s.accesses k ≡ Some access) where
+    -- the variables of an access's levels are its own, and the statement's
+    module _ (k : ℕ) (access : Access) (is : slice_get s.accesses k ≡ Some access) where
       variables : Each (λ w. contains access.vars w ≡ true) (variables_at s formats k)
       variables =
           subst (λ o. Each (λ w. contains access.vars w ≡ true) (variables_of formats o)) (sym is)
-          (vars_of access (of_number (λ (a : Access). IsFormat (format_of formats a.tensor)) s.accesses k access formed is)
-          (of_number (HasFormat formats) s.accesses k access orders is).order)
+          (by (less_or_not access.tensor (length formats)))
+        where
+          by : (access.tensor < length formats) ⊎ (length formats ≤ access.tensor)
+              → Each (λ w. contains access.vars w ≡ true) (by_level (format_of formats access.tensor) access.vars)
+          by (inl below) =
+              own_vars access (of_number (λ (a : Access). IsFormat (format_of formats a.tensor)) s.accesses k access formed is)
+              (of_number (SuitsFormats formats) s.accesses k access orders is below).order
+          by (inr above) =
+              subst (λ (f : List FormatLevel). Each (λ w. contains access.vars w ≡ true) (by_level f access.vars))
+              (sym (outside formats access.tensor above)) tt
 
       variable_below : (w : ℕ) → contains access.vars w ≡ true → w < length s.vars
       variable_below w h =
           each_contained (λ v. v < length s.vars) access.vars
           (of_number (IsRead (length s.tensors) (length s.vars)) s.accesses k access numbered.right is).vars_stand w h
-
-      variable_around : (w : ℕ) → contains access.vars w ≡ true → around w ≡ true
-      variable_around w h = by (contains s.left.vars w) refl
-        where
-          stands : stands_in s.accesses w t.expr ≡ true
-          stands = stands_by s.accesses w k t.expr has (ap (is_at_access w) is ∙ h)
-
-          both : (a b c : Bool) → a ≡ true → b ≡ false → c ≡ true → ((a && not b) && c) ≡ true
-          both a b c f g i = ap (λ x. (x && not b) && c) f ∙ ap (λ x. not x && c) g ∙ i
-
-          by : (b : Bool) → contains s.left.vars w ≡ b → (b || contains (own_variables s t) w) ≡ true
-          by true left = refl
-          by false left =
-              contains_filtered (is_own s t.expr) (numbers_from 0 (length s.vars)) w
-              ∙ both (stands_in s.accesses w t.expr) (contains s.left.vars w) (contains (numbers_from 0 (length s.vars)) w) stands left
-              (number_in 0 (length s.vars) w (omega arith) (let below = variable_below w h in let high : w < 0 + length s.vars = omega
-              (arith, below) in high))
 
       -- a loop that comes next reaches one level at most of an access with edges
       next_reaches : (done rest bound : List ℕ) (v : ℕ) → order ≡ done ++ v ∷ rest → ((w : ℕ) → contains bound w ≡ true
@@ -348,6 +409,10 @@ module _ (s : Statement) (formats : List (List FormatLevel)) (numbered : IsNumbe
     some_access (a ∷ accesses) zero l = (a, refl)
     some_access (a ∷ accesses) (suc k) l = some_access accesses k (omega (arith, l))
 
+    each_as_in : (P Q : ℕ → Type 0) (ws : List ℕ) → ((w : ℕ) → P w → Q w) → Each P ws → Each Q ws
+    each_as_in P Q [] f h = tt
+    each_as_in P Q (w ∷ ws) f h = (f w h.0, each_as_in P Q ws f h.1)
+
     apart_front : (done rest : List ℕ) (v : ℕ) → IsDistinct (done ++ v ∷ rest) → contains done v ≡ false
     apart_front [] rest v h = refl
     apart_front (x ∷ done) rest v h =
@@ -358,90 +423,131 @@ module _ (s : Statement) (formats : List (List FormatLevel)) (numbered : IsNumbe
         middle [] h = h.0
         middle (y ∷ done) h = middle done h.1
 
-    each_as_in : (P Q : ℕ → Type 0) (ws : List ℕ) → ((w : ℕ) → P w → Q w) → Each P ws → Each Q ws
-    each_as_in P Q [] f h = tt
-    each_as_in P Q (w ∷ ws) f h = (f w h.0, each_as_in P Q ws f h.1)
+    -- a statement's loops may be lowered in its order, for which its sums are inner
+    pub all_allowed : HasSums s formats → AreInner s order → Allows s formats order
+    all_allowed sums inner = record {
+      apart = none_before order ordered.once;
+      behind = before_all order ordered.once;
+      next = λ bound v k there before l.
+          let p = some_access s.accesses k l in
+          let split = split_at order ordered.once v there in
+          next_reaches k p.0 p.1 split.done split.rest bound v split.all
+          (λ w h. split.before w (each_contained (λ u. stands_before order u v ≡ true) bound before w h))
+          (apart_front split.done split.rest v (subst IsDistinct split.all ordered.once));
+      whole = λ bound k l h. let p = some_access s.accesses k l in
+          reached_all bound (variables_at s formats k)
+          (each_as_in (λ w. contains p.0.vars w ≡ true) (λ w. contains bound w ≡ true) (variables_at s formats k)
+          (λ w is. one_bound bound (vars_at s k) h w (ap (λ o. contains (vars_of o) w) p.1 ∙ is)) (variables k p.0 p.1));
+      sums = sums;
+      inner = inner;
+      known = λ n l. ordered.all (sum_at s n).var (sum_of_list (length s.vars) (first_sum s) s.sums sums.numbers n l).0;
+    }
 
-    fits_rest : EachAccess (λ k. k < length s.accesses) t.expr → (rest done bound : List ℕ) → order ≡ done ++ rest
-        → ((w : ℕ) → contains bound w ≡ (around w && contains done w)) → Fits s formats bound (filter around rest) t
-    fits_rest below [] done bound all are =
-        each_access (λ k. k < length s.accesses)
-        (λ k. (k < length s.accesses) × (reached bound (variables_at s formats k) ≡ length (variables_at s formats k))) t.expr
-        (λ k has l. (l, reached_all bound (variables_at s formats k) (known k has (some_access s.accesses k l)))) below
-      where
-        known : (k : ℕ) → has_access t.expr k ≡ true → ((access : Access) × (slice_get s.accesses k ≡ Some access))
-            → Each (λ w. contains bound w ≡ true) (variables_at s formats k)
-        known k has p = each_as_in (λ w. contains p.0.vars w ≡ true) (λ w. contains bound w ≡ true) (variables_at s formats k)
-            (λ w h. are w ∙ ap (λ b. b && contains done w) (variable_around k p.0 has p.1 w h)
-            ∙ ap (λ xs. contains xs w) (sym (all ∙ append-nil done)) ∙ ordered.all w (variable_below k p.0 has p.1 w h))
-            (variables k p.0 has p.1)
-    fits_rest below (v ∷ rest) done bound all are =
-        by (around v) refl
-        (λ skips. fits_rest below rest (done ++ v ∷ []) bound (all ∙ sym (append_assoc done (v ∷ []) rest)) (still skips))
-        (λ takes. fits_rest below rest (done ++ v ∷ []) (v ∷ bound) (all ∙ sym (append_assoc done (v ∷ []) rest)) (more takes))
-      where
-        fresh : contains done v ≡ false
-        fresh = apart_front done rest v (subst IsDistinct all ordered.once)
+    module _ (t : Term) where
+      abbrev around : ℕ → Bool
+      around v = contains s.left.vars v || contains (own_variables s t) v
 
-        at : (w : ℕ) → contains (done ++ v ∷ []) w ≡ (contains done w || (nat_eq v w || false))
-        at w = contains_both done (v ∷ []) w
+      -- the variables of the term's accesses have loops around it
+      variable_around : (k : ℕ) (access : Access) → has_access t.expr k ≡ true → slice_get s.accesses k ≡ Some access → (w : ℕ)
+          → contains access.vars w ≡ true → around w ≡ true
+      variable_around k access has is w h = by (contains s.left.vars w) refl
+        where
+          stands : stands_in s.accesses w t.expr ≡ true
+          stands = stands_by s.accesses w k t.expr has (ap (is_at_access w) is ∙ h)
 
-        still : around v ≡ false → (w : ℕ) → contains bound w ≡ (around w && contains (done ++ v ∷ []) w)
-        still skips w = are w ∙ cases (nat_eq v w) (around w) (contains done w) (λ h. ap around (sym (same_by v w h)) ∙ skips)
-            ∙ ap (λ b. around w && b) (sym (at w))
-          where
-            cases : (x a c : Bool) → (x ≡ true → a ≡ false) → (a && c) ≡ (a && (c || (x || false)))
-            cases true a c f = ap (λ b. b && c) (f refl) ∙ sym (ap (λ b. b && (c || true)) (f refl))
-            cases false true true f = refl
-            cases false true false f = refl
-            cases false false c f = refl
+          both : (a b c : Bool) → a ≡ true → b ≡ false → c ≡ true → ((a && not b) && c) ≡ true
+          both a b c f g i = ap (λ x. (x && not b) && c) f ∙ ap (λ x. not x && c) g ∙ i
 
-        more : around v ≡ true → (w : ℕ) → contains (v ∷ bound) w ≡ (around w && contains (done ++ v ∷ []) w)
-        more takes w =
-            ap (λ b. nat_eq v w || b) (are w)
-            ∙ cases (nat_eq v w) (around w) (contains done w) (λ h. ap around (sym (same_by v w h)) ∙ takes)
-            ∙ ap (λ b. around w && b) (sym (at w))
-          where
-            or_true : (c : Bool) → (c || true) ≡ true
-            or_true true = refl
-            or_true false = refl
+          by : (b : Bool) → contains s.left.vars w ≡ b → (b || contains (own_variables s t) w) ≡ true
+          by true left = refl
+          by false left =
+              contains_filtered (is_own s t.expr) (numbers_from 0 (length s.vars)) w
+              ∙ both (stands_in s.accesses w t.expr) (contains s.left.vars w) (contains (numbers_from 0 (length s.vars)) w) stands left
+              (number_in 0 (length s.vars) w (omega arith) (let below = variable_below k access is w h in
+              let high : w < 0 + length s.vars = omega (arith, below) in high))
 
-            cases : (x a c : Bool) → (x ≡ true → a ≡ true) → (x || (a && c)) ≡ (a && (c || (x || false)))
-            cases true a c f = sym (ap (λ b. b && (c || true)) (f refl) ∙ or_true c)
-            cases false true true f = refl
-            cases false true false f = refl
-            cases false false c f = refl
+      fits_rest : EachAccess (λ k. k < length s.accesses) t.expr → (rest done bound : List ℕ) → order ≡ done ++ rest
+          → ((w : ℕ) → contains bound w ≡ (around w && contains done w)) → Fits s order bound (filter around rest) t
+      fits_rest below [] done bound all are =
+          each_access (λ k. k < length s.accesses)
+          (λ k. (k < length s.accesses) × (are_bound bound (vars_at s k) ≡ true)) t.expr
+          (λ k has l. (l, known k has (some_access s.accesses k l))) below
+        where
+          known : (k : ℕ) → has_access t.expr k ≡ true → ((access : Access) × (slice_get s.accesses k ≡ Some access))
+              → are_bound bound (vars_at s k) ≡ true
+          known k has p = all_bound bound (vars_at s k) (λ w at.
+              let h : contains p.0.vars w ≡ true = sym (ap (λ o. contains (vars_of o) w) p.1) ∙ at in
+              are w ∙ ap (λ b. b && contains done w) (variable_around k p.0 has p.1 w h)
+              ∙ ap (λ xs. contains xs w) (sym (all ∙ append-nil done)) ∙ ordered.all w (variable_below k p.0 p.1 w h))
+      fits_rest below (v ∷ rest) done bound all are =
+          by (around v) refl
+          (λ skips. fits_rest below rest (done ++ v ∷ []) bound (all ∙ sym (append_assoc done (v ∷ []) rest)) (still skips))
+          (λ takes. fits_rest below rest (done ++ v ∷ []) (v ∷ bound) (all ∙ sym (append_assoc done (v ∷ []) rest)) (more takes))
+        where
+          at : (w : ℕ) → contains (done ++ v ∷ []) w ≡ (contains done w || (nat_eq v w || false))
+          at w = contains_both done (v ∷ []) w
 
-        unbound : contains bound v ≡ false
-        unbound = are v ∙ ap (λ b. around v && b) fresh ∙ none (around v)
-          where
-            none : (b : Bool) → (b && false) ≡ false
-            none true = refl
-            none false = refl
+          still : around v ≡ false → (w : ℕ) → contains bound w ≡ (around w && contains (done ++ v ∷ []) w)
+          still skips w = are w ∙ cases (nat_eq v w) (around w) (contains done w) (λ h. ap around (sym (same_by v w h)) ∙ skips)
+              ∙ ap (λ b. around w && b) (sym (at w))
+            where
+              cases : (x a c : Bool) → (x ≡ true → a ≡ false) → (a && c) ≡ (a && (c || (x || false)))
+              cases true a c f = ap (λ b. b && c) (f refl) ∙ sym (ap (λ b. b && (c || true)) (f refl))
+              cases false true true f = refl
+              cases false true false f = refl
+              cases false false c f = refl
 
-        in_done : (w : ℕ) → contains bound w ≡ true → contains done w ≡ true
-        in_done w h = second (around w) (contains done w) (sym (are w) ∙ h)
-          where
-            second : (a c : Bool) → (a && c) ≡ true → c ≡ true
-            second true c h = h
-            second false c h = absurd (cc h)
+          more : around v ≡ true → (w : ℕ) → contains (v ∷ bound) w ≡ (around w && contains (done ++ v ∷ []) w)
+          more takes w =
+              ap (λ b. nat_eq v w || b) (are w)
+              ∙ cases (nat_eq v w) (around w) (contains done w) (λ h. ap around (sym (same_by v w h)) ∙ takes)
+              ∙ ap (λ b. around w && b) (sym (at w))
+            where
+              or_true : (c : Bool) → (c || true) ≡ true
+              or_true true = refl
+              or_true false = refl
 
-        loops_next : EachAccess (MayLoop s formats bound v) t.expr
-        loops_next = each_access (λ k. k < length s.accesses) (MayLoop s formats bound v) t.expr
-            (λ k has l. let p = some_access s.accesses k l in next_reaches k p.0 has p.1 done rest bound v all in_done fresh) below
+              cases : (x a c : Bool) → (x ≡ true → a ≡ true) → (x || (a && c)) ≡ (a && (c || (x || false)))
+              cases true a c f = sym (ap (λ b. b && (c || true)) (f refl) ∙ or_true c)
+              cases false true true f = refl
+              cases false true false f = refl
+              cases false false c f = refl
 
-        by : (b : Bool) → around v ≡ b → (around v ≡ false → Fits s formats bound (filter around rest) t)
-            → (around v ≡ true → Fits s formats (v ∷ bound) (filter around rest) t)
-            → Fits s formats bound (cond b (v ∷ filter around rest) (filter around rest)) t
-        by true is f g = (unbound, loops_next, g is)
-        by false is f g = f is
+          in_done : (w : ℕ) → contains bound w ≡ true → contains done w ≡ true
+          in_done w h = second (around w) (contains done w) (sym (are w) ∙ h)
+            where
+              second : (a c : Bool) → (a && c) ≡ true → c ≡ true
+              second true c h = h
+              second false c h = absurd (cc h)
 
-    term_fits : EachAccess (λ k. k < length s.accesses) t.expr → Fits s formats [] (loops_of s order (own_variables s t)) t
-    term_fits below = fits_rest below order [] [] refl (λ w. none (around w))
-      where
-        none : (b : Bool) → false ≡ (b && false)
-        none true = refl
-        none false = refl
+          in_order : contains order v ≡ true
+          in_order = ap (λ xs. contains xs v) all ∙ there done
+            where
+              there : (done : List ℕ) → contains (done ++ v ∷ rest) v ≡ true
+              there [] = or_left (nat_eq v v) (contains rest v) (self_test v)
+              there (y ∷ done) = or_right (nat_eq y v) (contains (done ++ v ∷ rest) v) (there done)
+
+          before : (ws : List ℕ) → ((w : ℕ) → contains ws w ≡ true → contains done w ≡ true)
+              → Each (λ w. stands_before order w v ≡ true) ws
+          before [] f = tt
+          before (w ∷ ws) f = (
+            ap (λ xs. stands_before xs w v) all
+                ∙ before_by done rest w v (f w (or_left (nat_eq w w) (contains ws w) (self_test w))),
+            before ws (λ u h. f u (or_right (nat_eq w u) (contains ws u) h)),
+          )
+
+          by : (b : Bool) → around v ≡ b → (around v ≡ false → Fits s order bound (filter around rest) t)
+              → (around v ≡ true → Fits s order (v ∷ bound) (filter around rest) t)
+              → Fits s order bound (cond b (v ∷ filter around rest) (filter around rest)) t
+          by true is f g = (in_order, before bound in_done, g is)
+          by false is f g = f is
+
+      term_fits : EachAccess (λ k. k < length s.accesses) t.expr → Fits s order [] (loops_of s order (own_variables s t)) t
+      term_fits below = fits_rest below order [] [] refl (λ w. none (around w))
+        where
+          none : (b : Bool) → false ≡ (b && false)
+          none true = refl
+          none false = refl
 
   each_all : {X : Type 0} (P : X → Type 0) (xs : List X) → Each P xs → All P xs
   each_all P [] h = λ k d l. absurd (omega (arith, l))
@@ -451,10 +557,10 @@ module _ (s : Statement) (formats : List (List FormatLevel)) (numbered : IsNumbe
       at more zero d l = h.0
       at more (suc k) d l = more k d (omega (arith, l))
 
-  pub all_fit : (c : Concrete) → IsInOrder s formats c → AllFit s formats [] c
-  all_fit c h = all_each_of (λ (n : Nest). Fits s formats [] n.loops n.term) (nests c)
-      (All-permutation (λ (n : Nest). Fits s formats [] n.loops n.term) (map (nest_of s h.order) (terms s.expr)) (nests c) h.terms
-      (each_all (λ (n : Nest). Fits s formats [] n.loops n.term) (map (nest_of s h.order) (terms s.expr))
+  pub all_fit : (c : Concrete) (h : IsInOrder s formats c) → AllFit s h.order [] c
+  all_fit c h = all_each_of (λ (n : Nest). Fits s h.order [] n.loops n.term) (nests c)
+      (All-permutation (λ (n : Nest). Fits s h.order [] n.loops n.term) (map (nest_of s h.order) (terms s.expr)) (nests c) h.terms
+      (each_all (λ (n : Nest). Fits s h.order [] n.loops n.term) (map (nest_of s h.order) (terms s.expr))
       (mapped (terms s.expr) (terms_under (length s.accesses) s.expr numbered.expr))))
     where
       all_each_of : {X : Type 0} (P : X → Type 0) (xs : List X) → All P xs → Each P xs
@@ -462,6 +568,28 @@ module _ (s : Statement) (formats : List (List FormatLevel)) (numbered : IsNumbe
       all_each_of P (x ∷ xs) g = (g 0 x (omega arith), all_each_of P xs (λ k d l. g (suc k) d (omega (arith, l))))
 
       mapped : (ts : List Term) → Each (λ (t : Term). EachAccess (λ k. k < length s.accesses) t.expr) ts
-          → Each (λ (n : Nest). Fits s formats [] n.loops n.term) (map (nest_of s h.order) ts)
+          → Each (λ (n : Nest). Fits s h.order [] n.loops n.term) (map (nest_of s h.order) ts)
       mapped [] g = tt
       mapped (t ∷ ts) g = (term_fits h.order h.is_order t g.0, mapped ts g.1)
+
+-- the loops of a statement in its order, with the sums around them that start outside all loops
+pub root_from : (s : Statement) (formats : List (List FormatLevel)) (c : Concrete) → IsNumbered s → HasSums s formats
+    → Each (SuitsFormats formats) s.accesses → AreFormed formats s.accesses → IsInOrder s formats c → (limit : ℕ) (loops all : LoopCode)
+    → limit ≡ length s.sums → IsLowered s formats [] c loops → all ≡ wrapped s formats (reads s limit c) None [] limit loops
+    → AreGood s formats [] (λ k. 0) (λ k. false) all
+root_from s formats c numbered sums suits formed h limit loops all top low is =
+    subst (AreGood s formats [] (λ k. 0) (λ k. false))
+    (sym (is ∙ ap (λ n. wrapped s formats (reads s n c) None [] n loops) top))
+    (root_good s formats h.order (all_allowed s formats numbered formed suits h.order h.is_order sums h.inner) c
+    (all_fit s formats numbered formed suits c h) loops low)
+
+-- and each of their sums starts in place
+pub root_placed : (s : Statement) (formats : List (List FormatLevel)) (c : Concrete) → IsNumbered s → HasSums s formats
+    → Each (SuitsFormats formats) s.accesses → AreFormed formats s.accesses → IsInOrder s formats c → (limit : ℕ) (loops all : LoopCode)
+    → limit ≡ length s.sums → IsLowered s formats [] c loops → all ≡ wrapped s formats (reads s limit c) None [] limit loops
+    → StartsInPlace s None [] 0 all
+root_placed s formats c numbered sums suits formed h limit loops all top low is =
+    subst (StartsInPlace s None [] 0)
+    (sym (is ∙ ap (λ n. wrapped s formats (reads s n c) None [] n loops) top))
+    (root_in_place s formats h.order (all_allowed s formats numbered formed suits h.order h.is_order sums h.inner) c
+    (all_fit s formats numbered formed suits c h) loops low)

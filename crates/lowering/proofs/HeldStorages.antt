@@ -1,7 +1,8 @@
 -- What storages of the operands' tensors hold is what the operands tell.
-use Rattle.std.specs.Prelude.{◌≡◌, ◌⊎◌, ℕ, zero, suc, ◌+◌, ◌<◌, ◌≤◌, List}
+use Rattle.std.specs.Prelude.{◌≡◌, ◌⊎◌, ℕ, zero, suc, ◌+◌, ◌<◌, ◌≤◌, nat_lt, true, false, List}
 use Rattle.std.specs.Prelude.{[], ◌∷◌, length, map, drop, Option, Some, None, slice_get, slice_index, slice_index_or, refl}
 use Rattle.std.proofs.Common.{◌∙◌, sym, ap, subst, arith, inl, inr, get_or}
+use Rattle.std.proofs.lemmas.Bool.Decides.{nat_tests}
 use Rattle.numbers.specs.Arithmetic.{Arithmetic}
 use Rattle.level_core.specs.declared.letter.Letter.TheVariants.{Dense}
 use Rattle.level_core.specs.declared.span.Span.{Span}
@@ -26,7 +27,8 @@ use Rattle.concrete_notation.specs.Contributions.{Inputs}
 use Rattle.loop_code.specs.Loops.{follow, word_of}
 use Rattle.lowering.specs.Held.{path_span, path_value, AreHeld}
 use Rattle.lowering.specs.Layouts.{layout_of, variables_of}
-use Rattle.lowering.specs.Stored.{entries_behind, stored_of, levels_stored, values_stored, IsToldBy, HasStorage}
+use Rattle.lowering.specs.Stored.{entries_behind, stored_of, levels_stored, values_stored, word_at, IsToldBy, HasStorage}
+use Rattle.lowering.specs.Sums.{AreSummed, first_sum}
 
 pub map_long : {X Y : Type 0} (f : X → Y) (xs : List X) → length (map f xs) ≡ length xs
 map_long f [] = refl
@@ -50,12 +52,19 @@ level_behind (x ∷ levels) zero l = record { level = x; is = refl; entries = λ
 level_behind (x ∷ levels) (suc depth) l =
     let b = level_behind levels depth (omega (arith, l)) in record { level = b.level; is = b.is; entries = b.entries }
 
+below_test : (a b : ℕ) → a < b → nat_lt a b ≡ true
+below_test a b h = grind (arith, nat_tests, h)
+
+above_test : (a b : ℕ) → nat_lt (a + b) a ≡ false
+above_test a b = grind (arith, nat_tests)
+
 pub some_or_none : {X : Type 0} (o : Option X) → ((x : X) × (o ≡ Some x)) ⊎ (o ≡ None)
 some_or_none None = inr refl
 some_or_none (Some x) = inl (x, refl)
 
 module _ (a : Arithmetic) (s : Statement) (formats : List (List FormatLevel)) (storages : ℕ → Storage) (inputs : Inputs) where
-  module _ (k : ℕ) (access : Access) (at : slice_get s.accesses k ≡ Some access) (has : HasStorage a formats storages inputs access)
+  module _ (k : ℕ) (real : k < first_sum s) (access : Access) (at : slice_get s.accesses k ≡ Some access)
+      (has : HasStorage a formats storages inputs access)
       (point : ℕ → ℕ) where
     storage : Storage
     storage = storages access.tensor
@@ -190,21 +199,41 @@ module _ (a : Arithmetic) (s : Statement) (formats : List (List FormatLevel)) (s
             let end = path_ends meaning (storages access.tensor).levels xs (length (storages access.tensor).values) f.0 long f.2 in
             let t = tells.path f.0.lo end in
             subst (TellsPart a (inputs.paths access.tensor (map point access.vars)) (inputs.values access.tensor (map point access.vars)))
-            (sym (value_is ∙ ap (word_of ((stored_of s storages).word k)) f.1))
-            (t.0, ap (λ o. slice_index (values_stored storages o) f.0.lo) at ∙ t.1)
+            (sym (value_is ∙ ap (word_of ((stored_of s storages).word k)) f.1)) (
+              t.0,
+              ap (λ b. word_at b (values_stored storages (slice_get s.accesses k)) f.0.lo) (below_test k (first_sum s) real)
+                  ∙ ap (λ o. slice_index (values_stored storages o) f.0.lo) at ∙ t.1,
+            )
         by (inr n) =
             subst (TellsPart a (inputs.paths access.tensor (map point access.vars)) (inputs.values access.tensor (map point access.vars)))
             (sym (value_is ∙ ap (word_of ((stored_of s storages).word k)) n.0)) (tells.none n.1)
 
-  of_number : (accesses : List Access) (k : ℕ) → Each (HasStorage a formats storages inputs) accesses → k < length accesses
-      → (access : Access) × (slice_get accesses k ≡ Some access) × HasStorage a formats storages inputs access
-  of_number [] k each l = absurd (omega (arith, l))
-  of_number (x ∷ accesses) zero each l = (x, refl, each.0)
-  of_number (x ∷ accesses) (suc k) each l = of_number accesses k each.1 (omega (arith, l))
-
-  pub storages_held : AreWords inputs.values → Each (HasStorage a formats storages inputs) s.accesses
-      → AreHeld a (layout_of s formats) (stored_of s storages) s.accesses inputs
-  storages_held words each = record {
+  -- where the accesses of tensors have storages, and sums are told as such
+  pub storages_held : AreWords inputs.values → AreSummed a s inputs
+      → ((k : ℕ) → k < first_sum s
+      → (access : Access) × (slice_get s.accesses k ≡ Some access) × HasStorage a formats storages inputs access)
+      → AreHeld a (layout_of s formats) (stored_of s storages) s inputs
+  storages_held words summed each = record {
     words = words;
-    told = λ k below point. let p = of_number s.accesses k each below in told k p.0 p.1 p.2 point;
+    told = λ k below point. let p = each k below in told k below p.0 p.1 p.2 point;
+    summed = summed;
+    plain = λ n below value. ap (λ b. word_at b (values_stored storages (slice_get s.accesses (first_sum s + n))) value)
+        (above_test (first_sum s) n);
   }
+
+  -- a statement without sums has all its accesses to tensors
+  pub plain_held : s.sums ≡ [] → AreWords inputs.values → Each (HasStorage a formats storages inputs) s.accesses
+      → AreHeld a (layout_of s formats) (stored_of s storages) s inputs
+  plain_held none words each =
+      let no : length s.sums ≡ 0 = ap length none in
+      storages_held words (record {
+        paths = λ n below. absurd (omega (arith, below, no));
+        values = λ n below. absurd (omega (arith, below, no));
+        absent = λ n below. absurd (omega (arith, below, no));
+      }) (λ k below. of_number s.accesses k each (omega (arith, below, no)))
+    where
+      of_number : (accesses : List Access) (k : ℕ) → Each (HasStorage a formats storages inputs) accesses → k < length accesses
+          → (access : Access) × (slice_get accesses k ≡ Some access) × HasStorage a formats storages inputs access
+      of_number [] k each l = absurd (omega (arith, l))
+      of_number (x ∷ accesses) zero each l = (x, refl, each.0)
+      of_number (x ∷ accesses) (suc k) each l = of_number accesses k each.1 (omega (arith, l))

@@ -185,7 +185,7 @@ module _ (a : Arithmetic) (inputs : Inputs) (accesses : List Access) (target : L
 
 pub rows_are : (s : Statement) (formats : List (List FormatLevel)) (c : Concrete) (in_order : IsInOrder s formats c) (loops : LoopCode)
     → AddsRows s formats c loops → (a : Arithmetic) → Laws a → (inputs : Inputs) (stored : Stored)
-    → AreHeld a (layout_of s formats) stored s.accesses inputs → (target : List ℕ)
+    → AreHeld a (layout_of s formats) stored s inputs → (target : List ℕ)
     → length (rows_to a s formats inputs stored target loops) ≡ pairs s in_order.order inputs
 rows_are s formats c in_order loops adds a laws inputs stored held target =
     ap length (adds a laws inputs stored held target)

@@ -4,4 +4,7 @@ pub mod Lowered
 pub mod Right
 pub mod Seeking
 pub mod Shapes
+pub mod Starts
 pub mod Stored
+pub mod Sums
+pub mod Wrapped

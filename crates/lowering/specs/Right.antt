@@ -41,9 +41,9 @@ pub record HaveValues (a : Arithmetic) (s : Statement) (inputs : Inputs) (rows :
 -- loops are right for a statement: so it is of the rows that they add to the left variables, and of those that they add to keys of a
 -- workspace, summed there and passed on
 pub record AreRight (s : Statement) (formats : List (List FormatLevel)) (loops : LoopCode) : Type 0 where
-  pub added : (a : Arithmetic) → Laws a → (inputs : Inputs) (stored : Stored) → AreHeld a (layout_of s formats) stored s.accesses inputs
+  pub added : (a : Arithmetic) → Laws a → (inputs : Inputs) (stored : Stored) → AreHeld a (layout_of s formats) stored s inputs
       → AreZeroElsewhere a inputs.paths inputs.values → HaveValues a s inputs (rows_to a s formats inputs stored s.left.vars loops)
-  pub summed : (a : Arithmetic) → Laws a → (inputs : Inputs) (stored : Stored) → AreHeld a (layout_of s formats) stored s.accesses inputs
+  pub summed : (a : Arithmetic) → Laws a → (inputs : Inputs) (stored : Stored) → AreHeld a (layout_of s formats) stored s inputs
       → AreZeroElsewhere a inputs.paths inputs.values → (keys : List ℕ) → AreKeys s keys
       → HaveValues a s inputs (map (passed_on s.left.vars (λ v. 0) keys) (sums_of a (rows_to a s formats inputs stored keys loops)))
 

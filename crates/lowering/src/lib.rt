@@ -5,5 +5,6 @@
 
 mod lowering;
 mod seeking;
+mod sums;
 
 pub use lowering::lower;

@@ -1,5 +1,6 @@
 pub mod Forward
 pub mod ModeOrders
+pub mod NestedSame
 pub mod Numbers
 pub mod PlannedLaws
 pub mod PlannedRanges

@@ -2,7 +2,7 @@
 ghost use Rattle.std.specs.Prelude.{◌≡◌, ℕ, List, Option, length};
 ghost use Rattle.format_spec.specs.Formats.{IsFormat};
 ghost use Rattle.format_spec.specs.declared.format.FormatLevel.{FormatLevel};
-ghost use Rattle.index_notation.specs.Statement.{IsDistinct};
+ghost use Rattle.index_notation.specs.Statement.{IsDistinct, IsNumberedWithSums};
 ghost use Rattle.iteration_graph.specs.Graphs.{NamesCycle};
 ghost use Rattle.lists.specs.Each.{Each};
 ghost use Rattle.mode_planner.specs.Plans.{LeadsForward, planned_edges};
@@ -10,7 +10,7 @@ ghost use Rattle.numbers.specs.Arithmetic.{Arithmetic};
 ghost use Rattle.index_notation.specs.declared.syntax.Statement.{Statement};
 ghost use Rattle.expr_terms.specs.declared.bound.Bound.{Bound};
 ghost use Rattle.expr_terms.specs.Ranges.{ranges_of};
-ghost use Rattle.expr_terms.specs.Terms.{statement_value};
+ghost use Rattle.expr_terms.specs.Nested.{nested_value};
 ghost use Rattle.mode_planner.specs.Planned.{IsPlanned, StoreOrigins, origin_of};
 ghost use Rattle.mode_planner.specs.declared.planned.Planned.{Planned};
 
@@ -28,9 +28,9 @@ pub fn planned_loops_have_an_order()
 /// point is that of the given one.
 pub fn planned_statements_keep_values()
     ensures { (a : Arithmetic) (s : Statement) (formats : List (List FormatLevel)) (plan : Planned)
-        (values stored : ℕ → List ℕ → ℕ) (ranges : ℕ → ℕ) (coords : List ℕ) → IsPlanned s formats plan
-        → StoreOrigins plan values stored
-        → statement_value a plan.statement stored ranges coords ≡ statement_value a s values ranges coords }
+        (values stored : ℕ → List ℕ → ℕ) (ranges : ℕ → ℕ) (coords : List ℕ) → IsNumberedWithSums s
+        → IsPlanned s formats plan → StoreOrigins plan values stored
+        → nested_value a plan.statement stored ranges coords ≡ nested_value a s values ranges coords }
 {}
 
 /// Claim: where each mode of a tensor of a planned statement tells what the tensor whose entries it stores tells there, and the given

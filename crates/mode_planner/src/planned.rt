@@ -9,7 +9,7 @@ ghost use Rattle.mode_planner.specs.Planned.{Answers, AreOrigins, CanBeCompiled,
 use crate::formats::{is_same, planned_format};
 use format_spec::Format;
 use index_notation::{
-    Access, Name, NestedSum, Statement, copy_access, copy_expr, copy_name, copy_sum,
+    Access, Name, Statement, copy_access, copy_expr, copy_name, copy_names, copy_sums,
 };
 use iteration_graph::{OrderFault, edges, order};
 use std::alloc::{AllocError, Global};
@@ -24,28 +24,6 @@ pub struct Planned {
     pub formats: Items<Format>,
     /// For tensor 1, tensor 2 and so on the tensor of the given statement whose entries it stores.
     pub origins: Items<usize>,
-}
-
-/// Equal names.
-fn copy_names(alloc: Global, names: &[Name]) -> Result<Items<Name>, AllocError>
-    ensures { IfOk result (λ copies. copies ≡ names.now) }
-{
-    let mut copies = Items::new(alloc);
-    for name in names {
-        copies.push(copy_name(alloc, name)?)?;
-    }
-    Ok(copies)
-}
-
-/// Equal nested sums.
-fn copy_sums(alloc: Global, sums: &[NestedSum]) -> Result<Items<NestedSum>, AllocError>
-    ensures { IfOk result (λ copies. copies ≡ sums.now) }
-{
-    let mut copies = Items::new(alloc);
-    for sum in sums {
-        copies.push(copy_sum(alloc, sum)?)?;
-    }
-    Ok(copies)
 }
 
 /// The plan of no access of the right side.

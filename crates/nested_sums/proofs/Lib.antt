@@ -1,4 +1,5 @@
 pub mod AddedPieces
+pub mod BadSums
 pub mod BoundVariables
 pub mod CutPieces
 pub mod CutTerms
@@ -9,6 +10,8 @@ pub mod InnerPieces
 pub mod KeptSums
 pub mod Leaves
 pub mod Meaning
+pub mod MeaningOfSums
+pub mod Mentions
 pub mod MultipliedInner
 pub mod MultipliedMinus
 pub mod MultipliedNumbers

@@ -107,7 +107,7 @@ point_has p (v ∷ vs) w h = by (nat_eq v w) refl h (point_has p vs w)
     by false e k rest = rest k
 
 module _ (ranges : ℕ → ℕ) (vars : ℕ) where
-  paths_kept : (accesses : List Access) (tensor : ℕ) (sums : List NestedSum) (paths : ℕ → List ℕ → Bool) (other : ℕ) (coords : List ℕ)
+  pub paths_kept : (accesses : List Access) (tensor : ℕ) (sums : List NestedSum) (paths : ℕ → List ℕ → Bool) (other : ℕ) (coords : List ℕ)
       → other < tensor → paths_with ranges vars accesses tensor sums paths other coords ≡ paths other coords
   paths_kept accesses tensor [] paths other coords below = refl
   paths_kept accesses tensor (sum ∷ sums) paths other coords below =

@@ -1,3 +1,4 @@
+pub mod Bad
 pub mod Bound
 pub mod Inner
 pub mod Multiplied

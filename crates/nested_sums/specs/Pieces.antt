@@ -99,6 +99,11 @@ opened_sums is_inner count n opened (sum ∷ sums) =
 abbrev pub has_minus_with_sums : Statement → Bool
 has_minus_with_sums s = has_minus s.expr || list_any (λ (sum : NestedSum). has_minus sum.inside) s.sums
 
+-- where there is no minus, none stands in the statement
+abbrev pub HasMeaningWithSums : Bool → Statement → Type 0
+HasMeaningWithSums true s = Unit {0}
+HasMeaningWithSums false s = has_minus_with_sums s ≡ false
+
 abbrev mutual
   -- every sum that stands in an expression is inner; sums stand behind so many accesses
   pub AreInner : (ℕ → Bool) → ℕ → Expr → Type 0

@@ -11,13 +11,12 @@ ghost use Rattle.nested_sums.specs.Multiplied.{final_term, unit_leaf, added, sum
 ghost use Rattle.nested_sums.specs.Multiplied.{term_pieces, all_sums, multiplied_out, multiplied};
 ghost use Rattle.nested_sums.specs.Multiplied.{KeepsValue, KeepsRest, HasInnerSums, KeepsNoMinus};
 
-use crate::copies::copy_statement;
 use crate::cutting::push_pieces_of_terms;
 use crate::inner_sums::inner;
 use crate::opening::{Opened, Piece, push_opened};
 use crate::units::{lacking, missing, push_kept, push_units, with_units};
 use expr_terms::{Term, flat, terms};
-use index_notation::{Expr, NestedSum, Operator, Statement, binary, copy_expr};
+use index_notation::{Expr, NestedSum, Operator, Statement, binary, copy_expr, copy_statement};
 use numbers::Semiring;
 use std::alloc::{AllocError, Global};
 use trees::{Boxed, Items};
@@ -286,6 +285,7 @@ fn multiplied_by(
 ) -> Result<Statement, AllocError>
     requires numbered { IsNumberedWithSums statement }
     requires clear { HasNoBadSum statement }
+    ensures is { IfOk result (λ out. out ≡ multiplied one statement order.now) }
     ensures value { IfOk result (KeepsValue one statement) }
     ensures support { IfOk result (KeepsSupport statement) }
     ensures meant { IfOk result (KeepsNoMinus statement) }
@@ -309,6 +309,7 @@ pub fn multiply_out<S: Semiring>(
 ) -> Result<Statement, AllocError>
     requires numbered { IsNumberedWithSums statement }
     requires clear { HasNoBadSum statement }
+    ensures is { IfOk result (λ out. out ≡ multiplied S.arithmetic.one statement order.now) }
     ensures value { IfOk result (KeepsValue S.arithmetic.one statement) }
     ensures support { IfOk result (KeepsSupport statement) }
     ensures meant { IfOk result (KeepsNoMinus statement) }

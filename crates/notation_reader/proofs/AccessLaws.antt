@@ -1,20 +1,20 @@
 -- Each step adds to the accesses what its symbol says.
-use Rattle.std.specs.Prelude.{◌≡◌, true, false, Option, Some, List, [], ◌∷◌, ◌++◌, refl}
+use Rattle.std.specs.Prelude.{◌≡◌, Bool, true, false, Option, Some, List, [], ◌∷◌, ◌++◌, refl}
 use Rattle.std.proofs.Common.{sym, ◌∙◌, ap, append_assoc}
 use Rattle.index_notation.specs.declared.syntax.Name.{Name}
 use Rattle.index_notation.specs.declared.token.WrittenAccess.{WrittenAccess}
 use Rattle.index_notation.specs.declared.token.Mark.TheVariants.{Equals, PlusEquals, Plus, Minus, Times, Open, Close, Comma}
 use Rattle.index_notation.specs.declared.token.Token.TheVariants.{Name as NameToken, Number as NumberToken, Mark as MarkToken}
-use Rattle.index_notation.specs.declared.symbol.Symbol.{Symbol}
-use Rattle.index_notation.specs.declared.symbol.Symbol.TheVariants.{Lexeme, End}
-use Rattle.index_notation.specs.Grammar.{Factor, Digits, Read, Bracketed, Negated, Product}
-use Rattle.index_notation.specs.TreeStatement.{accesses_of_factor, accesses_of_product, accesses_of_sum}
-use Rattle.notation_reader.specs.Machine.{SumPlace, OnTheRight, InBrackets, ProductPlace, First, BehindPlus, BehindMinus}
+use Rattle.notation_grammar.specs.declared.symbol.Symbol.{Symbol}
+use Rattle.notation_grammar.specs.declared.symbol.Symbol.TheVariants.{Lexeme, End}
+use Rattle.notation_grammar.specs.Grammar.{Factor, Digits, Read, Bracketed, Negated, Summed, Product, is_sum}
+use Rattle.notation_grammar.specs.TreeStatement.{accesses_of_factor, accesses_of_product, accesses_of_sum}
+use Rattle.notation_reader.specs.Machine.{SumPlace, OnTheRight, InBrackets, InSum, ProductPlace, First, BehindPlus, BehindMinus}
 use Rattle.notation_reader.specs.Machine.{FactorPlace, FirstFactor, BehindTimes, BehindSign, its_product, product_with, its_sum, sum_with}
-use Rattle.notation_reader.specs.Machine.{behind_factor, closed, ended, step_behind, step, Side, Left, Right}
+use Rattle.notation_reader.specs.Machine.{behind_factor, closed, ended, left_named, factor_named, step_behind, step, Side, Left, Right}
 use Rattle.notation_reader.specs.Machine.{behind_mark, State, Start, Named, WantsVariable, BehindVariable, BehindLeft, WantsFactor}
-use Rattle.notation_reader.specs.Machine.{Behind, Ended}
-use Rattle.notation_reader.specs.Leads.{lead_of}
+use Rattle.notation_reader.specs.Machine.{NamedSum, WantsBound, BehindBound, Behind, Ended}
+use Rattle.notation_reader.specs.Leads.{left_named_leads, factor_named_leads, lead_of}
 use Rattle.notation_reader.specs.Shown.{show}
 use Rattle.notation_reader.specs.Accesses.{accesses_to_sum, accesses_to_product, accesses_to, access_to, accesses_so_far, Mentions}
 use Rattle.notation_reader.proofs.MachineLaws.{some_is, nothing_leads, append_none}
@@ -43,6 +43,11 @@ close_keeps (InBrackets at) place p next e h =
     (product_accesses at (Bracketed (sum_with place p))
     ∙ ap (λ (x : SumPlace). accesses_to_sum x ++ accesses_of_sum (sum_with place p)) (sym e)
     ∙ sum_accesses place p)
+close_keeps (InSum at var) place p next e h =
+    from_equal (behind_factor at (Summed var (sum_with place p))) next (accesses_so_far (Behind place p)) h
+    (product_accesses at (Summed var (sum_with place p))
+    ∙ ap (λ (x : SumPlace). accesses_to_sum x ++ accesses_of_sum (sum_with place p)) (sym e)
+    ∙ sum_accesses place p)
 
 end_keeps : (at : SumPlace) (place : ProductPlace) (p : Product) (next : State) → its_sum place ≡ at
     → ended at (sum_with place p) ≡ Some next → accesses_so_far next ≡ accesses_so_far (Behind place p)
@@ -51,6 +56,7 @@ end_keeps (OnTheRight left) place p next e h =
     (ap (λ (x : SumPlace). accesses_to_sum x ++ accesses_of_sum (sum_with place p)) (sym e)
     ∙ sum_accesses place p)
 end_keeps (InBrackets at) place p next e h = nothing_leads next h
+end_keeps (InSum at var) place p next e h = nothing_leads next h
 
 -- a symbol behind a factor says nothing of the accesses
 behind_keeps : (place : ProductPlace) (p : Product) (t : Symbol) (next : State) → step_behind place p t ≡ Some next
@@ -78,8 +84,13 @@ abbrev Says : State → Type 0
 Says s = (t : Symbol) (next : State) (new : List WrittenAccess) → step s t ≡ Some next
     → Mentions t (lead_of (show s).stand t) (accesses_so_far s) new → accesses_so_far next ≡ new
 
+left_named_says : (name : Name) (b : Bool) (next : State) (new : List WrittenAccess) → left_named name b ≡ Some next
+    → Mentions (Lexeme (NameToken name)) (left_named_leads b) [] new → accesses_so_far next ≡ new
+left_named_says name true next new e w = nothing_leads next e
+left_named_says name false next new e w = from_equal (Named Left name) next new e (sym w)
+
 start_says : Says Start
-start_says (Lexeme (NameToken name)) next new e w = from_equal (Named Left name) next new e (sym w)
+start_says (Lexeme (NameToken name)) next new e w = left_named_says name (is_sum name) next new e w
 start_says _ next new e w = nothing_leads next e
 
 left_name_says : (name : Name) → Says (Named Left name)
@@ -127,15 +138,34 @@ left_says access (Lexeme (MarkToken PlusEquals)) next new e w =
     from_equal (behind_mark access true) next new e (sym w)
 left_says access _ next new e w = nothing_leads next e
 
+factor_named_says : (place : FactorPlace) (name : Name) (b : Bool) (next : State) (new : List WrittenAccess)
+    → ◌≡◌ {A = Option State} (Some (factor_named place name b)) (Some next)
+    → Mentions (Lexeme (NameToken name)) (factor_named_leads b) (accesses_to place) new → accesses_so_far next ≡ new
+factor_named_says place name true next new e w = from_equal (NamedSum place) next new e (sym w)
+factor_named_says place name false next new e w = from_equal (Named (Right place) name) next new e (sym w)
+
 wants_says : (place : FactorPlace) → Says (WantsFactor place)
 wants_says place (Lexeme (NumberToken digits)) next new e w =
     from_equal (behind_factor place (Digits digits)) next new e (product_accesses place (Digits digits) ∙ append_none (accesses_to place)
     ∙ sym w)
-wants_says place (Lexeme (NameToken name)) next new e w = from_equal (Named (Right place) name) next new e (sym w)
+wants_says place (Lexeme (NameToken name)) next new e w = factor_named_says place name (is_sum name) next new e w
 wants_says place (Lexeme (MarkToken Open)) next new e w =
     from_equal (WantsFactor (FirstFactor (First (InBrackets place)))) next new e (sym w)
 wants_says place (Lexeme (MarkToken Minus)) next new e w = from_equal (WantsFactor (BehindSign place)) next new e (sym w)
 wants_says place _ next new e w = nothing_leads next e
+
+named_sum_says : (place : FactorPlace) → Says (NamedSum place)
+named_sum_says place (Lexeme (MarkToken Open)) next new e w = from_equal (WantsBound place) next new e (sym w)
+named_sum_says place _ next new e w = nothing_leads next e
+
+wants_bound_says : (place : FactorPlace) → Says (WantsBound place)
+wants_bound_says place (Lexeme (NameToken var)) next new e w = from_equal (BehindBound place var) next new e (sym w)
+wants_bound_says place _ next new e w = nothing_leads next e
+
+bound_says : (place : FactorPlace) (var : Name) → Says (BehindBound place var)
+bound_says place var (Lexeme (MarkToken Comma)) next new e w =
+    from_equal (WantsFactor (FirstFactor (First (InSum place var)))) next new e (sym w)
+bound_says place var _ next new e w = nothing_leads next e
 
 behind_says : (place : ProductPlace) (p : Product) → Says (Behind place p)
 behind_says place p (Lexeme (MarkToken Times)) next new e w = behind_keeps place p (Lexeme (MarkToken Times)) next e ∙ sym w
@@ -153,5 +183,8 @@ says (WantsVariable side name vars) t next new e w = wants_variable_says side na
 says (BehindVariable side name vars var) t next new e w = variable_says side name vars var t next new e w
 says (BehindLeft access) t next new e w = left_says access t next new e w
 says (WantsFactor place) t next new e w = wants_says place t next new e w
+says (NamedSum place) t next new e w = named_sum_says place t next new e w
+says (WantsBound place) t next new e w = wants_bound_says place t next new e w
+says (BehindBound place var) t next new e w = bound_says place var t next new e w
 says (Behind place p) t next new e w = behind_says place p t next new e w
 says (Ended tree) t next new e w = nothing_leads next e

@@ -1,11 +1,11 @@
 -- Names put at the end of a row where they don't stand yet are its names in order of first appearance.
-use Rattle.std.specs.Prelude.{◌≡◌, ℕ, ◌+◌, ◌<◌, ◌≤◌, ◌==◌, cond, List, [], ◌∷◌, ◌++◌, length, get_or, drop, map, refl}
+use Rattle.std.specs.Prelude.{◌≡◌, ℕ, ◌<◌, ◌≤◌, ◌==◌, cond, List, [], ◌∷◌, ◌++◌, length, drop, map, refl}
 use Rattle.std.proofs.Common.{sym, ◌∙◌, ap, append_assoc, arith}
-use Rattle.std.proofs.lemmas.List.{append-nil, drop_more, drop_all}
+use Rattle.std.proofs.lemmas.List.{append-nil, drop_all}
 use Rattle.std.proofs.lemmas.Bool.Decides.{Decides-eqb}
 use Rattle.index_notation.specs.declared.syntax.Name.{Name}
 use Rattle.index_notation.specs.declared.token.WrittenAccess.{WrittenAccess}
-use Rattle.index_notation.specs.Numbering.{is_same, place_of, without, distinct, name_of, variables_of}
+use Rattle.index_notation.specs.Numbering.{is_same, place_of, without, distinct, name_of}
 use Rattle.index_notation.specs.NumberingLaws.{Stands, yes, no}
 use Rattle.index_notation.proofs.NumberingLaws.{tested, same_names, place_here, place_later, stands_here, stands_later, stands_behind}
 use Rattle.index_notation.proofs.NumberingLaws.{without_drops, without_keeps}
@@ -99,10 +99,10 @@ added (name ∷ names) found = elim (tested (place_of found name == length found
       ∙ ap (λ (ns : List Name). found ++ ns) (sym (fresh_standing found name (distinct names) stands)))
 ]
 
-pub added_are_distinct : (names : List Name) → with_names [] names ≡ distinct names
+added_are_distinct : (names : List Name) → with_names [] names ≡ distinct names
 added_are_distinct names = added names []
 
-pub added_join : (found names more : List Name) → with_names found (names ++ more) ≡ with_names (with_names found names) more
+added_join : (found names more : List Name) → with_names found (names ++ more) ≡ with_names (with_names found names) more
 added_join found [] more = refl
 added_join found (name ∷ names) more = added_join (with_name found name) names more
 
@@ -110,25 +110,9 @@ pub distinct_more : (names : List Name) (name : Name) → distinct (names ++ nam
 distinct_more names name = sym (added_are_distinct (names ++ name ∷ [])) ∙ added_join [] names (name ∷ [])
     ∙ ap (λ (ns : List Name). with_name ns name) (added_are_distinct names)
 
--- the variables of one more access
-pub variables_step : (accesses : List WrittenAccess) (i : ℕ) (access : WrittenAccess) (names now : List Name) → i < length accesses
-    → access ≡ get_or accesses i access → now ≡ with_names names access.vars
-    → with_names names (variables_of (drop i accesses)) ≡ with_names now (variables_of (drop (i + 1) accesses))
-variables_step accesses i access names now h e f =
-    ap (λ (row : List WrittenAccess). with_names names (variables_of row)) (drop_more accesses i access h
-    ∙ ap (λ (a : WrittenAccess). a ∷ drop (i + 1) accesses) (sym e))
-    ∙ added_join names access.vars (variables_of (drop (i + 1) accesses))
-    ∙ ap (λ (ns : List Name). with_names ns (variables_of (drop (i + 1) accesses))) (sym f)
-
 -- where no access is left
 pub tensors_end : (all names : List Name) (accesses : List WrittenAccess) (i : ℕ)
     → with_names [] all ≡ with_names names (map name_of (drop i accesses)) → length accesses ≤ i → names ≡ distinct all
 tensors_end all names accesses i e h =
     let none : drop i accesses ≡ [] = drop_all i accesses h in
     sym (e ∙ ap (λ (row : List WrittenAccess). with_names names (map name_of row)) none) ∙ added_are_distinct all
-
-pub variables_end : (all names : List Name) (accesses : List WrittenAccess) (i : ℕ)
-    → with_names [] all ≡ with_names names (variables_of (drop i accesses)) → length accesses ≤ i → names ≡ distinct all
-variables_end all names accesses i e h =
-    let none : drop i accesses ≡ [] = drop_all i accesses h in
-    sym (e ∙ ap (λ (row : List WrittenAccess). with_names names (variables_of row)) none) ∙ added_are_distinct all

@@ -1,14 +1,14 @@
 -- Signs have one answer: a tree within the limits, or the place and the fault of the first faulty symbol.
 use Rattle.std.specs.Prelude.{◌≡◌, ℕ, Option, Some, List, [], ◌∷◌, ◌++◌, refl}
 use Rattle.std.proofs.Common.{sym, ◌∙◌, ap, subst, append_assoc}
-use Rattle.index_notation.specs.declared.symbol.PlacedSymbol.{PlacedSymbol}
-use Rattle.index_notation.specs.declared.symbol.Symbol.{Symbol}
-use Rattle.index_notation.specs.declared.fault.SymbolFault.{SymbolFault}
-use Rattle.index_notation.specs.Grammar.{Tree}
+use Rattle.notation_grammar.specs.declared.symbol.PlacedSymbol.{PlacedSymbol}
+use Rattle.notation_grammar.specs.declared.symbol.Symbol.{Symbol}
+use Rattle.notation_grammar.specs.declared.fault.SymbolFault.{SymbolFault}
+use Rattle.notation_grammar.specs.Grammar.{Tree}
 use Rattle.notation_reader.proofs.ReadingLaws.{one_reading, append_none}
 use Rattle.notation_reader.proofs.FaultLaws.{last_once}
-use Rattle.index_notation.specs.Faults.{limit_passed, PastLimit, BeginsNone, FaultAt, no_sentence, past_limit, HasNoFault, HaveNoFault}
-use Rattle.index_notation.specs.Faults.{symbols_of, IsFirstFault, IsTreeOf}
+use Rattle.notation_grammar.specs.Faults.{limit_passed, PastLimit, BeginsNone, FaultAt, no_sentence, past_limit, HasNoFault, HaveNoFault}
+use Rattle.notation_grammar.specs.Faults.{symbols_of, IsFirstFault, IsTreeOf}
 
 pub symbols_append : (ps qs : List PlacedSymbol) → symbols_of (ps ++ qs) ≡ symbols_of ps ++ symbols_of qs
 symbols_append [] qs = refl

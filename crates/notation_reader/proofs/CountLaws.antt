@@ -1,37 +1,38 @@
 -- The reader's counts are those of what it has read.
-use Rattle.std.specs.Prelude.{◌≡◌, true, false, ℕ, suc, ◌+◌, Option, Some, None, List, [], ◌∷◌, ◌++◌, length, refl}
+use Rattle.std.specs.Prelude.{◌≡◌, Bool, true, false, ℕ, suc, ◌+◌, Option, Some, None, List, [], ◌∷◌, ◌++◌, length, refl}
 use Rattle.std.proofs.Common.{sym, ◌∙◌, ap, subst, arith, append_assoc, length-append}
 use Rattle.index_notation.specs.declared.syntax.Name.{Name}
 use Rattle.index_notation.specs.declared.token.Mark.TheVariants.{Equals, PlusEquals, Plus, Minus, Times, Open, Close, Comma}
 use Rattle.index_notation.specs.declared.token.Token.TheVariants.{Name as NameToken, Number as NumberToken, Mark as MarkToken}
 use Rattle.index_notation.specs.declared.token.WrittenAccess.{WrittenAccess}
-use Rattle.index_notation.specs.declared.symbol.Symbol.{Symbol}
-use Rattle.index_notation.specs.declared.symbol.Symbol.TheVariants.{Lexeme, End}
-use Rattle.index_notation.specs.Grammar.{Digits, Read, Bracketed, Product, Sum, Role, NamesLeft, NamesRight, IsVariable, IsNumber, Opens}
-use Rattle.index_notation.specs.Grammar.{Plain, Written}
-use Rattle.notation_reader.specs.Machine.{SumPlace, OnTheRight, InBrackets, ProductPlace, First, BehindPlus, BehindMinus, FactorPlace}
-use Rattle.notation_reader.specs.Machine.{FirstFactor, BehindTimes, BehindSign, levels, its_product, product_with, its_sum, sum_with, Side}
-use Rattle.notation_reader.specs.Machine.{Left, Right, State, Start, Named, WantsVariable, BehindVariable, BehindLeft, WantsFactor, Behind}
-use Rattle.notation_reader.specs.Machine.{Ended, behind_factor, behind_mark, closed, ended, step_behind, step, count_on, before, role, read}
+use Rattle.notation_grammar.specs.declared.symbol.Symbol.{Symbol}
+use Rattle.notation_grammar.specs.declared.symbol.Symbol.TheVariants.{Lexeme, End}
+use Rattle.notation_grammar.specs.Grammar.{Digits, Read, Bracketed, Summed, Product, Sum, Role, NamesLeft, NamesRight, IsVariable, Binds}
+use Rattle.notation_grammar.specs.Grammar.{IsNumber, Opens, Plain, Written, is_sum}
+use Rattle.notation_reader.specs.Machine.{SumPlace, OnTheRight, InBrackets, InSum, ProductPlace, First, BehindPlus, BehindMinus}
+use Rattle.notation_reader.specs.Machine.{FactorPlace, FirstFactor, BehindTimes, BehindSign, levels, its_product, product_with, its_sum}
+use Rattle.notation_reader.specs.Machine.{sum_with, Side, Left, Right, State, Start, Named, WantsVariable, BehindVariable, BehindLeft}
+use Rattle.notation_reader.specs.Machine.{WantsFactor, NamedSum, WantsBound, BehindBound, Behind, Ended, behind_factor, behind_mark}
+use Rattle.notation_reader.specs.Machine.{closed, ended, left_named, factor_named, step_behind, step, count_on, before, role, read}
 use Rattle.limits.specs.Limits.{greatest_order, greatest_variables, greatest_accesses, greatest_operands, greatest_literal}
 use Rattle.index_notation.specs.Numbering.{distinct}
-use Rattle.index_notation.specs.declared.fault.Counted.TheVariants.{Order, Variables, Accesses, Operands}
-use Rattle.index_notation.specs.declared.fault.SymbolFault.{SymbolFault}
-use Rattle.index_notation.specs.declared.fault.SymbolFault.TheVariants.{TooMany, LiteralRange}
+use Rattle.notation_grammar.specs.declared.fault.Counted.TheVariants.{Order, Variables, Accesses, Operands}
+use Rattle.notation_grammar.specs.declared.fault.SymbolFault.{SymbolFault}
+use Rattle.notation_grammar.specs.declared.fault.SymbolFault.TheVariants.{TooMany, LiteralRange}
 use Rattle.notation_reader.specs.declared.position.Lead.{Lead}
 use Rattle.notation_reader.specs.declared.position.Lead.TheVariants as lead
 use Rattle.notation_reader.specs.declared.counts.Counts.{Counts}
 use Rattle.notation_reader.proofs.MachineLaws.{grows, some_is, nothing_leads, append_none}
-use Rattle.index_notation.specs.Faults.{above, number_of, variable_at, access_at, operand_at, variables_in, accesses_in, operands_in}
-use Rattle.index_notation.specs.Faults.{limit_passed}
+use Rattle.notation_grammar.specs.Faults.{above, number_of, variable_at, access_at, operand_at, variables_in, accesses_in, operands_in}
+use Rattle.notation_grammar.specs.Faults.{limit_passed}
 use Rattle.notation_reader.specs.Added.{with_name}
 use Rattle.notation_reader.proofs.Adding.{distinct_more}
-use Rattle.notation_reader.specs.Leads.{lead_of}
+use Rattle.notation_reader.specs.Leads.{left_named_leads, factor_named_leads, lead_of}
 use Rattle.notation_reader.specs.Shown.{show}
 use Rattle.notation_reader.proofs.Doing.{Does, IsUncounted}
 use Rattle.notation_reader.proofs.ShownLaws.{does}
-use Rattle.notation_reader.specs.Counting.{OrderIs, IsCounted, with_variable, with_access, with_number, variable_fault, access_fault}
-use Rattle.notation_reader.specs.Counting.{number_fault, level_fault, CountsAs, CountsSymbol}
+use Rattle.notation_reader.specs.Counting.{OrderIs, IsCounted, with_variable, with_bound, with_access, with_number, variable_fault}
+use Rattle.notation_reader.specs.Counting.{bound_fault, access_fault, number_fault, level_fault, CountsAs, CountsSymbol}
 
 pub variables_more : (ms : List Written) (m : Written) → variables_in (ms ++ (m ∷ [])) ≡ variables_in ms ++ variable_at m.role m.symbol
 variables_more [] m = append_none (variable_at m.role m.symbol)
@@ -53,6 +54,7 @@ count_is n (var ∷ vars) = let h = count_is (suc n) vars in omega (arith, h)
 abbrev OrdersAs : State → Symbol → State → ℕ → Lead → Type 0
 OrdersAs s t next n (lead.Variable at) = OrderIs next (n + 1) × (role s t ≡ IsVariable (n + 1))
     × ((name : Name) × (t ≡ Lexeme (NameToken name)))
+OrdersAs s t next n lead.Bound = OrderIs next n × ((name : Name) × (t ≡ Lexeme (NameToken name)))
 OrdersAs s t next n lead.Name = OrderIs next 0
 OrdersAs s t next n _ = OrderIs next n
 
@@ -66,10 +68,12 @@ order_to n x next e h = subst (λ (y : State). OrderIs y n) (some_is x next e) h
 closed_order : (at : SumPlace) (s : Sum) (next : State) (n : ℕ) → closed at s ≡ Some next → OrderIs next n
 closed_order (OnTheRight left) s next n e = nothing_leads next e
 closed_order (InBrackets place) s next n e = order_to n (behind_factor place (Bracketed s)) next e tt
+closed_order (InSum place var) s next n e = order_to n (behind_factor place (Summed var s)) next e tt
 
 ended_order : (at : SumPlace) (s : Sum) (next : State) (n : ℕ) → ended at s ≡ Some next → OrderIs next n
 ended_order (OnTheRight left) s next n e = order_to n (Ended (record { left = left; right = s })) next e tt
 ended_order (InBrackets place) s next n e = nothing_leads next e
+ended_order (InSum place var) s next n e = nothing_leads next e
 
 behind_order : (place : ProductPlace) (p : Product) (t : Symbol) (next : State) (n : ℕ) → step_behind place p t ≡ Some next → OrderIs next n
 behind_order place p (Lexeme (MarkToken Times)) next n e = order_to n (WantsFactor (BehindTimes place p)) next e tt
@@ -84,8 +88,13 @@ behind_order place p _ next n e = nothing_leads next e
 abbrev Ordered : State → Type 0
 Ordered s = (t : Symbol) (next : State) (n : ℕ) → step s t ≡ Some next → OrderIs s n → OrdersAs s t next n (lead_of (show s).stand t)
 
+left_named_order : (name : Name) (b : Bool) (next : State) (n : ℕ) → left_named name b ≡ Some next → n ≡ 0
+    → OrdersAs Start (Lexeme (NameToken name)) next n (left_named_leads b)
+left_named_order name true next n e h = nothing_leads next e
+left_named_order name false next n e h = order_to n (Named Left name) next e h
+
 start_order : Ordered Start
-start_order (Lexeme (NameToken name)) next n e h = order_to n (Named Left name) next e h
+start_order (Lexeme (NameToken name)) next n e h = left_named_order name (is_sum name) next n e h
 start_order _ next n e h = nothing_leads next e
 
 left_name_order : (name : Name) → Ordered (Named Left name)
@@ -147,12 +156,31 @@ left_order access (Lexeme (MarkToken Equals)) next n e h = order_to n (behind_ma
 left_order access (Lexeme (MarkToken PlusEquals)) next n e h = order_to n (behind_mark access true) next e tt
 left_order access _ next n e h = nothing_leads next e
 
+factor_named_order : (place : FactorPlace) (name : Name) (b : Bool) (next : State) (n : ℕ)
+    → ◌≡◌ {A = Option State} (Some (factor_named place name b)) (Some next)
+    → OrdersAs (WantsFactor place) (Lexeme (NameToken name)) next n (factor_named_leads b)
+factor_named_order place name true next n e = order_to n (NamedSum place) next e tt
+factor_named_order place name false next n e = order_to 0 (Named (Right place) name) next e refl
+
 wants_order : (place : FactorPlace) → Ordered (WantsFactor place)
 wants_order place (Lexeme (NumberToken digits)) next n e h = order_to n (behind_factor place (Digits digits)) next e tt
-wants_order place (Lexeme (NameToken name)) next n e h = order_to 0 (Named (Right place) name) next e refl
+wants_order place (Lexeme (NameToken name)) next n e h = factor_named_order place name (is_sum name) next n e
 wants_order place (Lexeme (MarkToken Open)) next n e h = order_to n (WantsFactor (FirstFactor (First (InBrackets place)))) next e tt
 wants_order place (Lexeme (MarkToken Minus)) next n e h = order_to n (WantsFactor (BehindSign place)) next e tt
 wants_order place _ next n e h = nothing_leads next e
+
+named_sum_order : (place : FactorPlace) → Ordered (NamedSum place)
+named_sum_order place (Lexeme (MarkToken Open)) next n e h = order_to n (WantsBound place) next e tt
+named_sum_order place _ next n e h = nothing_leads next e
+
+wants_bound_order : (place : FactorPlace) → Ordered (WantsBound place)
+wants_bound_order place (Lexeme (NameToken var)) next n e h = (order_to n (BehindBound place var) next e tt, (var, refl))
+wants_bound_order place _ next n e h = nothing_leads next e
+
+bound_order : (place : FactorPlace) (var : Name) → Ordered (BehindBound place var)
+bound_order place var (Lexeme (MarkToken Comma)) next n e h =
+    order_to n (WantsFactor (FirstFactor (First (InSum place var)))) next e tt
+bound_order place var _ next n e h = nothing_leads next e
 
 behind_factor_order : (place : ProductPlace) (p : Product) → Ordered (Behind place p)
 behind_factor_order place p (Lexeme (MarkToken Times)) next n e h = behind_order place p (Lexeme (MarkToken Times)) next n e
@@ -170,6 +198,9 @@ orders (WantsVariable side name vars) t next n e h = wants_variable_order side n
 orders (BehindVariable side name vars var) t next n e h = behind_variable_order side name vars var t next n e h
 orders (BehindLeft access) t next n e h = left_order access t next n e h
 orders (WantsFactor place) t next n e h = wants_order place t next n e h
+orders (NamedSum place) t next n e h = named_sum_order place t next n e h
+orders (WantsBound place) t next n e h = wants_bound_order place t next n e h
+orders (BehindBound place var) t next n e h = bound_order place var t next n e h
 orders (Behind place p) t next n e h = behind_factor_order place p t next n e h
 orders (Ended tree) t next n e h = nothing_leads next e
 
@@ -179,6 +210,7 @@ uncounted_passes NamesLeft t all h = refl
 uncounted_passes Plain t all h = refl
 uncounted_passes NamesRight t all h = absurd h
 uncounted_passes (IsVariable n) t all h = absurd h
+uncounted_passes Binds t all h = absurd h
 uncounted_passes IsNumber t all h = absurd h
 uncounted_passes (Opens n) t all h = absurd h
 
@@ -187,6 +219,7 @@ uncounted_adds NamesLeft t h = (refl, refl, refl)
 uncounted_adds Plain t h = (refl, refl, refl)
 uncounted_adds NamesRight t h = absurd h
 uncounted_adds (IsVariable n) t h = absurd h
+uncounted_adds Binds t h = absurd h
 uncounted_adds IsNumber t h = absurd h
 uncounted_adds (Opens n) t h = absurd h
 
@@ -282,20 +315,40 @@ number_judged s t next c d fault e h k r o =
       operands = ap (λ x. c.operands + operand_at x) (sym r);
     })
 
+one_more_variable : (s : State) (t : Symbol) (c : Counts) (name : Name) → IsCounted s c → variable_at (role s t) t ≡ name ∷ []
+    → distinct (variables_in (before s) ++ variable_at (role s t) t) ≡ with_name c.vars name
+one_more_variable s t c name h one =
+    ap (λ (ns : List Name). distinct (variables_in (before s) ++ ns)) one ∙ distinct_more (variables_in (before s)) name
+    ∙ ap (λ (ns : List Name). with_name ns name) (sym h.vars)
+
 variable_judged : (s : State) (t : Symbol) (next : State) (c d : Counts) (fault : Option SymbolFault) (name : Name) → step s t ≡ Some next
     → IsCounted s c → CountsAs (variable_fault c name) (with_variable name c) fault d → role s t ≡ IsVariable (c.order + 1)
     → t ≡ Lexeme (NameToken name) → OrderIs next (c.order + 1) → IsJudged s t next fault d
 variable_judged s t next c d fault name e h k r is o =
     let all = before s ++ (read s t ∷ []) in
-    let one : variable_at (role s t) t ≡ name ∷ [] = λ i. variable_at (r i) (is i) in
-    let vars : distinct (variables_in (before s) ++ variable_at (role s t) t) ≡ with_name c.vars name =
-    ap (λ (ns : List Name). distinct (variables_in (before s) ++ ns)) one ∙ distinct_more (variables_in (before s)) name
-    ∙ ap (λ (ns : List Name). with_name ns name) (sym h.vars) in
+    let vars = one_more_variable s t c name h (λ i. variable_at (r i) (is i)) in
     let whole : distinct (variables_in all) ≡ with_name c.vars name = ap distinct (variables_more (before s) (read s t)) ∙ vars in
     judged s t next c (with_variable name c) d (variable_fault c name) fault e h k
     (ap (λ x. limit_passed x t all) r
     ∙ ap (λ (ns : List Name). above greatest_order (c.order + 1) (TooMany Order)
     (above greatest_variables (length ns) (TooMany Variables) None)) whole)
+    (record {
+      order = o;
+      vars = sym vars;
+      accesses = plus_none c.accesses (access_at (role s t)) (ap access_at r);
+      operands = plus_none c.operands (operand_at (role s t)) (ap operand_at r);
+    })
+
+bound_judged : (s : State) (t : Symbol) (next : State) (c d : Counts) (fault : Option SymbolFault) (name : Name) → step s t ≡ Some next
+    → IsCounted s c → CountsAs (bound_fault c name) (with_bound name c) fault d → role s t ≡ Binds → t ≡ Lexeme (NameToken name)
+    → OrderIs next c.order → IsJudged s t next fault d
+bound_judged s t next c d fault name e h k r is o =
+    let all = before s ++ (read s t ∷ []) in
+    let vars = one_more_variable s t c name h (λ i. variable_at (r i) (is i)) in
+    let whole : distinct (variables_in all) ≡ with_name c.vars name = ap distinct (variables_more (before s) (read s t)) ∙ vars in
+    judged s t next c (with_bound name c) d (bound_fault c name) fault e h k
+    (ap (λ x. limit_passed x t all) r
+    ∙ ap (λ (ns : List Name). above greatest_variables (length ns) (TooMany Variables) None) whole)
     (record {
       order = o;
       vars = sym vars;
@@ -311,7 +364,9 @@ by_lead (lead.To at) s t next c d fault e h k w o = uncounted_judged s t next c 
 by_lead (lead.Variable at) s t next c d fault e h k w o = variable_judged s t next c d fault o.2.0 e h (k o.2.0 o.2.1) o.1 o.2.1 o.0
 by_lead lead.Number s t next c d fault e h k w o = number_judged s t next c d fault e h k w.1 o
 by_lead lead.Name s t next c d fault e h k w o = name_judged s t next c d fault e h k w.1 o
-by_lead lead.Bracket s t next c d fault e h k w o = level_judged s t next c d fault (show s).levels e h k w.1 o
+by_lead lead.Sum s t next c d fault e h k w o = uncounted_judged s t next c d fault e h k w.1 o
+by_lead lead.Bound s t next c d fault e h k w o = bound_judged s t next c d fault o.1.0 e h (k o.1.0 o.1.1) w.1 o.1.1 o.0
+by_lead (lead.Bracket at) s t next c d fault e h k w o = level_judged s t next c d fault (show s).levels e h k w.1 o
 by_lead lead.Minus s t next c d fault e h k w o = level_judged s t next c d fault (show s).levels e h k w.1 o
 by_lead lead.Operator s t next c d fault e h k w o = uncounted_judged s t next c d fault e h k w.1 o
 by_lead lead.Access s t next c d fault e h k w o = uncounted_judged s t next c d fault e h k w.1 o

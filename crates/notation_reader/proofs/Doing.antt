@@ -4,7 +4,7 @@ use Rattle.notation_reader.specs.declared.position.Stand.TheVariants as stand
 use Rattle.notation_reader.specs.declared.position.Lead.{Lead}
 use Rattle.notation_reader.specs.declared.position.Lead.TheVariants as lead
 use Rattle.notation_reader.specs.declared.position.Position.{Position}
-use Rattle.index_notation.specs.Grammar.{Role, NamesLeft, NamesRight, IsVariable, IsNumber, Opens, Plain}
+use Rattle.notation_grammar.specs.Grammar.{Role, NamesLeft, NamesRight, IsVariable, Binds, IsNumber, Opens, Plain}
 use Rattle.notation_reader.specs.Machine.{State}
 use Rattle.notation_reader.specs.Shown.{on_the_left, show, finished, with_stand, in_bracket, behind_sign, out_of_bracket}
 
@@ -25,7 +25,9 @@ Does o r role (lead.To at) = Leads o (with_stand at r) × IsUncounted role
 Does o r role (lead.Variable at) = Leads o (with_stand at r) × ((n : ℕ) × (role ≡ IsVariable n))
 Does o r role lead.Number = Leads o (finished r) × (role ≡ IsNumber)
 Does o r role lead.Name = Leads o (with_stand stand.Name r) × (role ≡ NamesRight)
-Does o r role lead.Bracket = Leads o (in_bracket r) × (role ≡ Opens (r.levels + 1))
+Does o r role lead.Sum = Leads o (with_stand stand.SumName r) × IsUncounted role
+Does o r role lead.Bound = Leads o (with_stand stand.SumVariable r) × (role ≡ Binds)
+Does o r role (lead.Bracket at) = Leads o (in_bracket at r) × (role ≡ Opens (r.levels + 1))
 Does o r role lead.Minus = Leads o (behind_sign r) × (role ≡ Opens (r.levels + 1))
 Does o r role lead.Operator = Leads o (with_stand stand.Operator (finished r)) × IsUncounted role
 Does o r role lead.Access = Leads o (finished r) × IsUncounted role

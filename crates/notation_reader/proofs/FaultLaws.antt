@@ -1,13 +1,13 @@
 -- A reader's next step decides the fault of a symbol.
 use Rattle.std.specs.Prelude.{◌≡◌, Option, Some, None, List, [], ◌∷◌, ◌++◌, refl}
 use Rattle.std.proofs.Common.{sym, ◌∙◌, ap, subst, append_assoc}
-use Rattle.index_notation.specs.declared.symbol.Symbol.{Symbol}
-use Rattle.index_notation.specs.declared.fault.SymbolFault.{SymbolFault}
-use Rattle.index_notation.specs.Grammar.{Written, symbols, Begins}
+use Rattle.notation_grammar.specs.declared.symbol.Symbol.{Symbol}
+use Rattle.notation_grammar.specs.declared.fault.SymbolFault.{SymbolFault}
+use Rattle.notation_grammar.specs.Grammar.{Written, symbols, Begins}
 use Rattle.notation_reader.specs.Machine.{State, Start, step, run, before, read}
 use Rattle.notation_reader.proofs.MachineLaws.{grows}
 use Rattle.notation_reader.proofs.ReadingLaws.{begun_stands, stands_begins, run_parts, stepped, first_step, append_none}
-use Rattle.index_notation.specs.Faults.{limit_passed, PastLimit, BeginsNone, no_sentence, past_limit, HasNoFault, HaveNoFault}
+use Rattle.notation_grammar.specs.Faults.{limit_passed, PastLimit, BeginsNone, no_sentence, past_limit, HasNoFault, HaveNoFault}
 
 -- a run goes on by a step
 pub run_on : (earlier : List Symbol) (t : Symbol) (s last next : State) → run s earlier ≡ Some last → step last t ≡ Some next

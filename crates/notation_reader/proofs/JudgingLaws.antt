@@ -1,22 +1,23 @@
 -- How a reader judges a symbol, and how far it has come.
 use Rattle.std.specs.Prelude.{◌≡◌, ℕ, Bool, true, false, MatchBool, Option, Some, None, List, [], ◌∷◌, ◌++◌, refl}
 use Rattle.std.proofs.Common.{sym, ◌∙◌, ap, subst}
-use Rattle.index_notation.specs.declared.symbol.Symbol.{Symbol}
-use Rattle.index_notation.specs.declared.symbol.Symbol.TheVariants.{Lexeme, End, Stray}
-use Rattle.index_notation.specs.Grammar.{Read, Sum, Tree, Role, symbols}
-use Rattle.notation_reader.specs.Machine.{SumPlace, OnTheRight, InBrackets, its_product, product_with, its_sum, sum_with, Left, Right}
-use Rattle.notation_reader.specs.Machine.{State, Start, Named, WantsVariable, BehindVariable, BehindLeft, WantsFactor, Behind, Ended}
-use Rattle.notation_reader.specs.Machine.{ended, step, run, before, role}
-use Rattle.index_notation.specs.declared.fault.SymbolFault.{SymbolFault}
-use Rattle.index_notation.specs.declared.fault.SymbolFault.TheVariants.{BadNotation}
+use Rattle.notation_grammar.specs.declared.symbol.Symbol.{Symbol}
+use Rattle.notation_grammar.specs.declared.symbol.Symbol.TheVariants.{Lexeme, End, Stray}
+use Rattle.notation_grammar.specs.Grammar.{Read, Sum, Tree, Role, symbols}
+use Rattle.notation_reader.specs.Machine.{SumPlace, OnTheRight, InBrackets, InSum, its_product, product_with, its_sum, sum_with, Left}
+use Rattle.notation_reader.specs.Machine.{Right, State, Start, Named, WantsVariable, BehindVariable, BehindLeft, WantsFactor, NamedSum}
+use Rattle.notation_reader.specs.Machine.{WantsBound, BehindBound, Behind, Ended, ended, step, run, before, role}
+use Rattle.notation_grammar.specs.declared.fault.SymbolFault.{SymbolFault}
+use Rattle.notation_grammar.specs.declared.fault.SymbolFault.TheVariants.{BadNotation}
 use Rattle.notation_reader.specs.declared.position.Lead.{Lead}
 use Rattle.notation_reader.specs.declared.position.Lead.TheVariants as lead
 use Rattle.notation_reader.specs.declared.position.Stand.TheVariants as stand
 use Rattle.notation_reader.specs.declared.position.Position.{Position}
 use Rattle.notation_reader.specs.declared.counts.Counts.{Counts}
 use Rattle.notation_reader.proofs.MachineLaws.{some_is, nothing_leads}
-use Rattle.notation_reader.proofs.ReadingLaws.{run_parts, first_step, stands_begins}
-use Rattle.index_notation.specs.Faults.{FaultAt, no_sentence, past_limit, HaveNoFault, IsTreeOf}
+use Rattle.notation_reader.proofs.NameLaws.{AreNamed, tree_names}
+use Rattle.notation_reader.proofs.ReadingLaws.{run_parts, run_is_named, first_step, stands_begins}
+use Rattle.notation_grammar.specs.Faults.{FaultAt, no_sentence, past_limit, HaveNoFault, IsTreeOf}
 use Rattle.notation_reader.proofs.FaultLaws.{nowhere_is_bad, passed_is_fault, taken_has_no_fault, faultless_on, run_on}
 use Rattle.notation_reader.specs.Leads.{lead_of}
 use Rattle.notation_reader.specs.Shown.{on_the_left, show}
@@ -42,7 +43,9 @@ leads_on (lead.To at) o r role c d l t f w k = (w.0.0, w.0.1)
 leads_on (lead.Variable at) o r role c d l t f w k = (w.0.0, w.0.1)
 leads_on lead.Number o r role c d l t f w k = (w.0.0, w.0.1)
 leads_on lead.Name o r role c d l t f w k = (w.0.0, w.0.1)
-leads_on lead.Bracket o r role c d l t f w k = (w.0.0, w.0.1)
+leads_on lead.Sum o r role c d l t f w k = no_fault_due f k.0
+leads_on lead.Bound o r role c d l t f w k = (w.0.0, w.0.1)
+leads_on (lead.Bracket at) o r role c d l t f w k = (w.0.0, w.0.1)
 leads_on lead.Minus o r role c d l t f w k = (w.0.0, w.0.1)
 leads_on lead.Operator o r role c d l t f w k = (w.0.0, w.0.1)
 leads_on lead.Access o r role c d l t f w k = (w.0.0, w.0.1)
@@ -112,6 +115,7 @@ fault_of ts t s f e h = elim h [
 ended_so : (at : SumPlace) (s : Sum) (next : State) → ended at s ≡ Some next → (w : Tree) × (next ≡ Ended w)
 ended_so (OnTheRight left) s next e = (record { left = left; right = s }, sym (some_is (Ended (record { left = left; right = s })) next e))
 ended_so (InBrackets place) s next e = nothing_leads next e
+ended_so (InSum place var) s next e = nothing_leads next e
 
 end_so : (s next : State) → step s End ≡ Some next → (w : Tree) × (next ≡ Ended w)
 end_so Start next e = nothing_leads next e
@@ -123,6 +127,9 @@ end_so (WantsVariable side name vars) next e = nothing_leads next e
 end_so (BehindVariable side name vars var) next e = nothing_leads next e
 end_so (BehindLeft access) next e = nothing_leads next e
 end_so (WantsFactor place) next e = nothing_leads next e
+end_so (NamedSum place) next e = nothing_leads next e
+end_so (WantsBound place) next e = nothing_leads next e
+end_so (BehindBound place var) next e = nothing_leads next e
 end_so (Behind place p) next e = ended_so (its_sum place) (sum_with place p) next e
 end_so (Ended tree) next e = nothing_leads next e
 
@@ -134,6 +141,9 @@ stray_so (WantsVariable side name vars) next e = nothing_leads next e
 stray_so (BehindVariable side name vars var) next e = nothing_leads next e
 stray_so (BehindLeft access) next e = nothing_leads next e
 stray_so (WantsFactor place) next e = nothing_leads next e
+stray_so (NamedSum place) next e = nothing_leads next e
+stray_so (WantsBound place) next e = nothing_leads next e
+stray_so (BehindBound place var) next e = nothing_leads next e
 stray_so (Behind place p) next e = nothing_leads next e
 stray_so (Ended tree) next e = nothing_leads next e
 
@@ -149,10 +159,13 @@ tree_found ts r c l h =
     let f = first_step (step p.0 l.last) [] h.state p.2 in
     let same : f.0 ≡ h.state = some_is f.0 h.state f.2 in
     let w = last_so l.last p.0 f.0 l.ends f.1 in
+    let there : h.state ≡ Ended w.0 = sym same ∙ w.1 in
     let b = stands_begins ts h.state h.runs in (
       w.0,
       record {
-        is = sym b.1 ∙ ap (λ (s : State). symbols (before s)) (sym same ∙ w.1);
+        is = sym b.1 ∙ ap (λ (s : State). symbols (before s)) there;
+        names = tree_names w.0
+            (subst (λ (s : State). AreNamed (before s)) there (run_is_named ts Start h.state h.runs tt));
         within = h.faultless;
       },
     )

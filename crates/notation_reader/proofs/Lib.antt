@@ -1,4 +1,5 @@
 pub mod MachineLaws
+pub mod NameLaws
 pub mod ReadingLaws
 pub mod FaultLaws
 pub mod AnswerLaws
@@ -17,3 +18,4 @@ pub mod Marks
 pub mod TreeMarks
 pub mod NotationLaws
 pub mod TreeNumbers
+pub mod TreeSums

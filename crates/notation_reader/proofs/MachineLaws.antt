@@ -1,23 +1,24 @@
 -- What a reader has read grows by each symbol that leads on; each state can be led to an end; a sentence is read to its
 -- end. So some sentence begins with the symbols exactly where a reader takes them all, and their roles are its own.
-use Rattle.std.specs.Prelude.{◌≡◌, true, false, ℕ, suc, Option, Some, None, List, [], ◌∷◌, ◌++◌, refl}
+use Rattle.std.specs.Prelude.{◌≡◌, Bool, true, false, ℕ, suc, Option, Some, None, List, [], ◌∷◌, ◌++◌, refl}
 use Rattle.std.proofs.Common.{sym, ◌∙◌, ap, subst, append_assoc}
 use Rattle.index_notation.specs.declared.syntax.Name.{Name}
 use Rattle.index_notation.specs.declared.token.Mark.TheVariants.{Equals, PlusEquals, Plus, Minus, Times, Open, Close, Comma}
 use Rattle.index_notation.specs.declared.token.Token.TheVariants.{Name as NameToken, Number as NumberToken, Mark as MarkToken}
 use Rattle.index_notation.specs.declared.token.WrittenAccess.{WrittenAccess}
-use Rattle.index_notation.specs.declared.symbol.Symbol.{Symbol}
-use Rattle.index_notation.specs.declared.symbol.Symbol.TheVariants.{Lexeme, End}
-use Rattle.index_notation.specs.Grammar.{Factor, Digits, Read, Bracketed, Negated, Product, Sum, Role, NamesLeft, NamesRight, IsVariable}
-use Rattle.index_notation.specs.Grammar.{Opens, Plain, Written, written, plain, the_end, access_of, factor_of, product_of, sum_of}
-use Rattle.index_notation.specs.Grammar.{more_variables, in_brackets}
-use Rattle.notation_reader.specs.Machine.{SumPlace, OnTheRight, InBrackets, ProductPlace, First, BehindPlus, BehindMinus, FactorPlace}
-use Rattle.notation_reader.specs.Machine.{FirstFactor, BehindTimes, BehindSign, sum_levels, product_levels, levels, before_sum}
-use Rattle.notation_reader.specs.Machine.{before_product, before_factor, its_product, product_with, its_sum, sum_with, Side, Left, Right}
-use Rattle.notation_reader.specs.Machine.{State, Start, Named, WantsVariable, BehindVariable, BehindLeft, WantsFactor, Behind, Ended}
-use Rattle.notation_reader.specs.Machine.{behind_factor, behind_mark, behind_access, closed, ended, step_behind, step, count_on}
-use Rattle.notation_reader.specs.Machine.{with_commas, named}
-use Rattle.notation_reader.specs.Machine.{before, read}
+use Rattle.notation_grammar.specs.declared.symbol.Symbol.{Symbol}
+use Rattle.notation_grammar.specs.declared.symbol.Symbol.TheVariants.{Lexeme, End}
+use Rattle.notation_grammar.specs.Grammar.{Factor, Digits, Read, Bracketed, Negated, Summed, Product, Sum, Role, NamesLeft, NamesRight}
+use Rattle.notation_grammar.specs.Grammar.{IsVariable, Opens, Plain, Written, written, plain, the_end, access_of, factor_of, product_of}
+use Rattle.notation_grammar.specs.Grammar.{sum_of, more_variables, in_brackets, sum_name, is_sum}
+use Rattle.index_notation.proofs.NumberingLaws.{same_names}
+use Rattle.notation_reader.specs.Machine.{SumPlace, OnTheRight, InBrackets, InSum, ProductPlace, First, BehindPlus, BehindMinus}
+use Rattle.notation_reader.specs.Machine.{FactorPlace, FirstFactor, BehindTimes, BehindSign, sum_levels, product_levels, levels}
+use Rattle.notation_reader.specs.Machine.{sum_begins, opens_at, binds, before_sum, before_product, before_factor, its_product}
+use Rattle.notation_reader.specs.Machine.{product_with, its_sum, sum_with, Side, Left, Right, State, Start, Named, WantsVariable}
+use Rattle.notation_reader.specs.Machine.{BehindVariable, BehindLeft, WantsFactor, NamedSum, WantsBound, BehindBound, Behind, Ended}
+use Rattle.notation_reader.specs.Machine.{behind_factor, behind_mark, behind_access, closed, ended, left_named, factor_named}
+use Rattle.notation_reader.specs.Machine.{step_behind, step, count_on, with_commas, named, role_of_named, before, read}
 
 pub append_none : {A : Type 0} (xs : List A) → xs ++ [] ≡ xs
 append_none [] = refl
@@ -79,6 +80,17 @@ step_by_step front vars name opens var closes = sym (
     ∙ append_assoc (front ++ (name ∷ [])) (opens ∷ []) (vars ++ (var ∷ closes ∷ []))
     ∙ append_assoc front (name ∷ []) (opens ∷ (vars ++ (var ∷ closes ∷ []))))
 
+step_by_step_on : (front : List Written) (name opens var comma closes : Written) (inside : List Written)
+    → front ++ (name ∷ opens ∷ var ∷ comma ∷ (inside ++ (closes ∷ []))) ≡
+    (((((front ++ (name ∷ [])) ++ (opens ∷ [])) ++ (var ∷ [])) ++ (comma ∷ [])) ++ inside) ++ (closes ∷ [])
+step_by_step_on front name opens var comma closes inside =
+    let all = inside ++ (closes ∷ []) in sym (
+    append_assoc ((((front ++ (name ∷ [])) ++ (opens ∷ [])) ++ (var ∷ [])) ++ (comma ∷ [])) inside (closes ∷ [])
+    ∙ append_assoc (((front ++ (name ∷ [])) ++ (opens ∷ [])) ++ (var ∷ [])) (comma ∷ []) all
+    ∙ append_assoc ((front ++ (name ∷ [])) ++ (opens ∷ [])) (var ∷ []) (comma ∷ all)
+    ∙ append_assoc (front ++ (name ∷ [])) (opens ∷ []) (var ∷ comma ∷ all)
+    ∙ append_assoc front (name ∷ []) (opens ∷ var ∷ comma ∷ all))
+
 access_behind : (front : List Written) (r : Role) (name : Name) (vars : List Name) (var : Name)
     → front ++ access_of r (record { name = name; vars = vars ++ (var ∷ []) }) ≡
     ((((front ++ (written (NameToken name) r ∷ [])) ++ (plain Open ∷ [])) ++ with_commas 1 vars)
@@ -99,16 +111,22 @@ closed_grows : (place : SumPlace) (s : Sum) (next : State) → closed place s �
     → before next ≡ (before_sum place ++ sum_of (sum_levels place) s) ++ (plain Close ∷ [])
 closed_grows (OnTheRight left) s next e = nothing_leads next e
 closed_grows (InBrackets place) s next e =
-    let opens = written (MarkToken Open) (Opens (suc (levels place))) in
+    let opens = opens_at (levels place) in
     ap before (sym (some_is (behind_factor place (Bracketed s)) next e))
     ∙ factor_behind place (Bracketed s)
     ∙ sym (append_assoc (before_factor place ++ (opens ∷ [])) (sum_of (suc (levels place)) s) (plain Close ∷ [])
     ∙ append_assoc (before_factor place) (opens ∷ []) (sum_of (suc (levels place)) s ++ (plain Close ∷ [])))
+closed_grows (InSum place var) s next e =
+    ap before (sym (some_is (behind_factor place (Summed var s)) next e))
+    ∙ factor_behind place (Summed var s)
+    ∙ step_by_step_on (before_factor place) sum_begins (opens_at (levels place)) (binds var) (plain Comma) (plain Close)
+    (sum_of (suc (levels place)) s)
 
 ended_grows : (place : SumPlace) (s : Sum) (next : State) → ended place s ≡ Some next
     → before next ≡ (before_sum place ++ sum_of (sum_levels place) s) ++ (the_end ∷ [])
 ended_grows (OnTheRight left) s next e = ap before (sym (some_is (Ended (record { left = left; right = s })) next e))
 ended_grows (InBrackets place) s next e = nothing_leads next e
+ended_grows (InSum place var) s next e = nothing_leads next e
 
 behind_grows : (place : ProductPlace) (p : Product) (t : Symbol) (next : State) → step_behind place p t ≡ Some next
     → Grows (Behind place p) t next
@@ -186,21 +204,49 @@ wants_variable_grows side name vars (Lexeme (NameToken var)) next e =
     leads (WantsVariable side name vars) (Lexeme (NameToken var)) (BehindVariable side name vars var) next e refl
 wants_variable_grows side name vars _ next e = nothing_leads next e
 
+left_named_grows : (name : Name) (b : Bool) (next : State) → left_named name b ≡ Some next → Grows Start (Lexeme (NameToken name)) next
+left_named_grows name true next e = nothing_leads next e
+left_named_grows name false next e = leads Start (Lexeme (NameToken name)) (Named Left name) next e refl
+
 start_grows : (t : Symbol) (next : State) → step Start t ≡ Some next → Grows Start t next
-start_grows (Lexeme (NameToken name)) next e = leads Start (Lexeme (NameToken name)) (Named Left name) next e refl
+start_grows (Lexeme (NameToken name)) next e = left_named_grows name (is_sum name) next e
 start_grows _ next e = nothing_leads next e
+
+factor_named_grows : (place : FactorPlace) (name : Name) (b : Bool) → is_sum name ≡ b
+    → before (factor_named place name b) ≡ before_factor place ++ (written (NameToken name) (role_of_named b) ∷ [])
+factor_named_grows place name true e =
+    ap (λ (n : Name). before_factor place ++ (written (NameToken n) Plain ∷ [])) (sym (same_names name sum_name e))
+factor_named_grows place name false e = refl
 
 factor_grows : (place : FactorPlace) (t : Symbol) (next : State) → step (WantsFactor place) t ≡ Some next → Grows (WantsFactor place) t next
 factor_grows place (Lexeme (NumberToken digits)) next e =
     leads (WantsFactor place) (Lexeme (NumberToken digits)) (behind_factor place (Digits digits)) next e
     (factor_behind place (Digits digits))
 factor_grows place (Lexeme (NameToken name)) next e =
-    leads (WantsFactor place) (Lexeme (NameToken name)) (Named (Right place) name) next e refl
+    leads (WantsFactor place) (Lexeme (NameToken name)) (factor_named place name (is_sum name)) next e
+    (factor_named_grows place name (is_sum name) refl)
 factor_grows place (Lexeme (MarkToken Open)) next e =
     leads (WantsFactor place) (Lexeme (MarkToken Open)) (WantsFactor (FirstFactor (First (InBrackets place)))) next e refl
 factor_grows place (Lexeme (MarkToken Minus)) next e =
     leads (WantsFactor place) (Lexeme (MarkToken Minus)) (WantsFactor (BehindSign place)) next e refl
 factor_grows place _ next e = nothing_leads next e
+
+named_sum_grows : (place : FactorPlace) (t : Symbol) (next : State) → step (NamedSum place) t ≡ Some next → Grows (NamedSum place) t next
+named_sum_grows place (Lexeme (MarkToken Open)) next e =
+    leads (NamedSum place) (Lexeme (MarkToken Open)) (WantsBound place) next e refl
+named_sum_grows place _ next e = nothing_leads next e
+
+wants_bound_grows : (place : FactorPlace) (t : Symbol) (next : State) → step (WantsBound place) t ≡ Some next
+    → Grows (WantsBound place) t next
+wants_bound_grows place (Lexeme (NameToken var)) next e =
+    leads (WantsBound place) (Lexeme (NameToken var)) (BehindBound place var) next e refl
+wants_bound_grows place _ next e = nothing_leads next e
+
+bound_grows : (place : FactorPlace) (var : Name) (t : Symbol) (next : State) → step (BehindBound place var) t ≡ Some next
+    → Grows (BehindBound place var) t next
+bound_grows place var (Lexeme (MarkToken Comma)) next e =
+    leads (BehindBound place var) (Lexeme (MarkToken Comma)) (WantsFactor (FirstFactor (First (InSum place var)))) next e refl
+bound_grows place var _ next e = nothing_leads next e
 
 -- what has been read grows by each symbol that leads on
 pub grows : (s : State) (t : Symbol) (next : State) → step s t ≡ Some next → Grows s t next
@@ -210,5 +256,8 @@ grows (WantsVariable side name vars) t next e = wants_variable_grows side name v
 grows (BehindVariable side name vars var) t next e = variable_grows side name vars var t next e
 grows (BehindLeft access) t next e = left_grows access t next e
 grows (WantsFactor place) t next e = factor_grows place t next e
+grows (NamedSum place) t next e = named_sum_grows place t next e
+grows (WantsBound place) t next e = wants_bound_grows place t next e
+grows (BehindBound place var) t next e = bound_grows place var t next e
 grows (Behind place p) t next e = behind_grows place p t next e
 grows (Ended tree) t next e = nothing_leads next e

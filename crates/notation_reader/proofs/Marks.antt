@@ -9,7 +9,7 @@ use Rattle.index_notation.specs.declared.token.Mark.{Mark}
 use Rattle.index_notation.specs.declared.token.Mark.TheVariants.{Equals, PlusEquals, Plus, Minus, Times, Open, Close, Comma}
 use Rattle.index_notation.specs.declared.token.Token.{Token}
 use Rattle.index_notation.specs.declared.token.Token.TheVariants.{Name as NameToken, Number as NumberToken, Mark as MarkToken}
-use Rattle.index_notation.specs.Tokens.{BeginsWith, bytes_of, is_equals, plus_before, mark_at, IsWhole, spelling, IsNext}
+use Rattle.index_notation.specs.Tokens.{BeginsWith, bytes_of, is_equals, plus_before, mark_at, IsWhole, IsNext}
 use Rattle.index_notation.proofs.TokenLaws.{mark_at_front}
 use Rattle.notation_reader.proofs.Bytes.{no_blank_first}
 

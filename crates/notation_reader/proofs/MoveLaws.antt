@@ -5,7 +5,7 @@ use Rattle.notation_reader.specs.declared.position.Stand.TheVariants as stand
 use Rattle.notation_reader.specs.declared.position.Lead.{Lead}
 use Rattle.notation_reader.specs.declared.position.Lead.TheVariants as lead
 use Rattle.notation_reader.specs.declared.position.Position.{Position}
-use Rattle.index_notation.specs.Grammar.{Role}
+use Rattle.notation_grammar.specs.Grammar.{Role}
 use Rattle.notation_reader.specs.Machine.{State}
 use Rattle.notation_reader.specs.Shown.{on_the_left, finished, with_stand, in_bracket, behind_sign, out_of_bracket}
 use Rattle.notation_reader.specs.Moves.{Moves}
@@ -37,7 +37,9 @@ move_tells (lead.To at) o role r q b m d = goes o (with_stand at r) q b d.0 m.0 
 move_tells (lead.Variable at) o role r q b m d = goes o (with_stand at r) q b d.0 m.0 m.1
 move_tells lead.Number o role r q b m d = goes o (finished r) q b d.0 m.0 m.1
 move_tells lead.Name o role r q b m d = goes o (with_stand stand.Name r) q b d.0 m.0 m.1
-move_tells lead.Bracket o role r q b m d = goes o (in_bracket r) q b d.0 m.0 m.1
+move_tells lead.Sum o role r q b m d = goes o (with_stand stand.SumName r) q b d.0 m.0 m.1
+move_tells lead.Bound o role r q b m d = goes o (with_stand stand.SumVariable r) q b d.0 m.0 m.1
+move_tells (lead.Bracket at) o role r q b m d = goes o (in_bracket at r) q b d.0 m.0 m.1
 move_tells lead.Minus o role r q b m d = goes o (behind_sign r) q b d.0 m.0 m.1
 move_tells lead.Operator o role r q b m d = goes o (with_stand stand.Operator (finished r)) q b d.0 m.0 m.1
 move_tells lead.Access o role r q b m d = goes o (finished r) q b d.0 m.0 m.1

@@ -1,22 +1,25 @@
 -- A sentence is read to its end, and each state can be led to an end. So some sentence begins with the symbols exactly where
 -- a reader takes them all, and then their roles are the reader's.
 use Rattle.std.specs.Prelude.{◌≡◌, ℕ, suc, Bool, true, false, Option, Some, None, option_and_then, List, [], ◌∷◌, ◌++◌, refl}
-use Rattle.std.proofs.Common.{sym, ◌∙◌, ap, append_assoc}
+use Rattle.std.proofs.Common.{sym, ◌∙◌, ap, subst, append_assoc}
+use Rattle.lists.proofs.Each.{each_append}
 use Rattle.index_notation.specs.declared.syntax.Name.{Name}
-use Rattle.index_notation.specs.declared.token.Mark.TheVariants.{Equals, PlusEquals, Plus, Minus, Times, Open, Close}
+use Rattle.index_notation.specs.declared.token.Mark.TheVariants.{Equals, PlusEquals, Plus, Minus, Times, Open, Close, Comma}
 use Rattle.index_notation.specs.declared.token.Token.TheVariants.{Name as NameToken, Number as NumberToken, Mark as MarkToken}
 use Rattle.index_notation.specs.declared.token.WrittenAccess.{WrittenAccess}
-use Rattle.index_notation.specs.declared.symbol.Symbol.{Symbol}
-use Rattle.index_notation.specs.declared.symbol.Symbol.TheVariants.{Lexeme, End}
-use Rattle.index_notation.specs.Grammar.{Factor, Digits, Read, Bracketed, Negated, Product, Lone, Multiplied, Sum, Alone, Added, Taken}
-use Rattle.index_notation.specs.Grammar.{Tree, NamesLeft, Written, plain, the_end, assigning, access_of, factor_of, product_of, sum_of}
-use Rattle.index_notation.specs.Grammar.{left_of}
-use Rattle.index_notation.specs.Grammar.{sentence_of, more_variables, in_brackets, symbols, Begins}
-use Rattle.notation_reader.specs.Machine.{SumPlace, OnTheRight, InBrackets, ProductPlace, First, BehindPlus, BehindMinus, FactorPlace}
-use Rattle.notation_reader.specs.Machine.{FirstFactor, BehindTimes, BehindSign, its_sum, sum_with, Side, Left, Right, State, Start, Named}
-use Rattle.notation_reader.specs.Machine.{WantsVariable, BehindVariable, BehindLeft, WantsFactor, Behind, Ended, behind_factor}
-use Rattle.notation_reader.specs.Machine.{behind_mark, behind_access, closed, ended, step, run, before, read}
-use Rattle.notation_reader.proofs.MachineLaws.{grows}
+use Rattle.notation_grammar.specs.declared.symbol.Symbol.{Symbol}
+use Rattle.notation_grammar.specs.declared.symbol.Symbol.TheVariants.{Lexeme, End}
+use Rattle.notation_grammar.specs.Grammar.{Factor, Digits, Read, Bracketed, Negated, Summed, Product, Lone, Multiplied, Sum, Alone, Added}
+use Rattle.notation_grammar.specs.Grammar.{Taken, Tree, NamesLeft, Written, plain, the_end, assigning, access_of, factor_of, product_of}
+use Rattle.notation_grammar.specs.Grammar.{sum_of, left_of, sentence_of, more_variables, in_brackets, symbols, Begins}
+use Rattle.notation_grammar.specs.Grammar.{is_sum, FactorNames, ProductNames, SumNames, HasNames}
+use Rattle.notation_reader.specs.Machine.{SumPlace, OnTheRight, InBrackets, InSum, ProductPlace, First, BehindPlus, BehindMinus}
+use Rattle.notation_reader.specs.Machine.{FactorPlace, FirstFactor, BehindTimes, BehindSign, its_sum, sum_with, Side, Left, Right, State}
+use Rattle.notation_reader.specs.Machine.{Start, Named, WantsVariable, BehindVariable, BehindLeft, WantsFactor, NamedSum, WantsBound}
+use Rattle.notation_reader.specs.Machine.{BehindBound, Behind, Ended, behind_factor, behind_mark, behind_access, closed, ended}
+use Rattle.notation_reader.specs.Machine.{left_named, factor_named, step, run, before, read}
+use Rattle.notation_reader.proofs.MachineLaws.{some_is, grows}
+use Rattle.notation_reader.proofs.NameLaws.{IsNamed, AreNamed, step_is_named, tree_names}
 
 -- a symbol follows, and opens no bracket
 abbrev pub Follows : List Symbol → Type 0
@@ -99,56 +102,70 @@ abbrev read_on : State → List Written → Option State
 read_on s ms = run s (symbols ms)
 
 mutual
-  factor_read : (f : Factor) (n : ℕ) (place : FactorPlace) (rest : List Written) → Follows (symbols rest)
+  factor_read : (f : Factor) (n : ℕ) (place : FactorPlace) (rest : List Written) → FactorNames f → Follows (symbols rest)
       → run (WantsFactor place) (symbols (factor_of n f ++ rest)) ≡ run (behind_factor place f) (symbols rest)
-  factor_read (Digits digits) n place rest h = refl
-  factor_read (Read access) n place rest h = access_read (Right place) access rest h
-  factor_read (Bracketed s) n place rest h =
+  factor_read (Digits digits) n place rest k h = refl
+  factor_read (Read access) n place rest k h =
+      ap (λ b. run (factor_named place access.name b) (symbols (in_brackets access.vars ++ rest))) k
+      ∙ access_read (Right place) access rest h
+  factor_read (Bracketed s) n place rest k h =
       ap (read_on (WantsFactor (FirstFactor (First (InBrackets place))))) (append_assoc (sum_of (suc n) s) (plain Close ∷ []) rest)
-      ∙ sum_read s (suc n) (InBrackets place) (plain Close ∷ rest) tt
+      ∙ sum_read s (suc n) (InBrackets place) (plain Close ∷ rest) k tt
       ∙ stepped (behind_sum (InBrackets place) s) (Lexeme (MarkToken Close)) (Some (behind_factor place (Bracketed s))) (symbols rest)
       (sum_closes (InBrackets place) s)
-  factor_read (Negated f) n place rest h = factor_read f (suc n) (BehindSign place) rest h
+  factor_read (Negated f) n place rest k h = factor_read f (suc n) (BehindSign place) rest k h
+  factor_read (Summed var s) n place rest k h =
+      ap (read_on (WantsFactor (FirstFactor (First (InSum place var))))) (append_assoc (sum_of (suc n) s) (plain Close ∷ []) rest)
+      ∙ sum_read s (suc n) (InSum place var) (plain Close ∷ rest) k tt
+      ∙ stepped (behind_sum (InSum place var) s) (Lexeme (MarkToken Close)) (Some (behind_factor place (Summed var s))) (symbols rest)
+      (sum_closes (InSum place var) s)
 
-  product_read : (p : Product) (n : ℕ) (place : ProductPlace) (rest : List Written) → Follows (symbols rest)
+  product_read : (p : Product) (n : ℕ) (place : ProductPlace) (rest : List Written) → ProductNames p → Follows (symbols rest)
       → run (WantsFactor (FirstFactor place)) (symbols (product_of n p ++ rest)) ≡ run (Behind place p) (symbols rest)
-  product_read (Lone f) n place rest h = factor_read f n (FirstFactor place) rest h
-  product_read (Multiplied p f) n place rest h =
+  product_read (Lone f) n place rest k h = factor_read f n (FirstFactor place) rest k h
+  product_read (Multiplied p f) n place rest k h =
       ap (read_on (WantsFactor (FirstFactor place))) (append_assoc (product_of n p) (plain Times ∷ factor_of n f) rest)
-      ∙ product_read p n place (plain Times ∷ (factor_of n f ++ rest)) tt
-      ∙ factor_read f n (BehindTimes place p) rest h
+      ∙ product_read p n place (plain Times ∷ (factor_of n f ++ rest)) k.0 tt
+      ∙ factor_read f n (BehindTimes place p) rest k.1 h
 
-  sum_read : (s : Sum) (n : ℕ) (place : SumPlace) (rest : List Written) → Follows (symbols rest)
+  sum_read : (s : Sum) (n : ℕ) (place : SumPlace) (rest : List Written) → SumNames s → Follows (symbols rest)
       → run (WantsFactor (FirstFactor (First place))) (symbols (sum_of n s ++ rest)) ≡ run (behind_sum place s) (symbols rest)
-  sum_read (Alone p) n place rest h = product_read p n (First place) rest h
-  sum_read (Added s p) n place rest h =
+  sum_read (Alone p) n place rest k h = product_read p n (First place) rest k h
+  sum_read (Added s p) n place rest k h =
       ap (read_on (WantsFactor (FirstFactor (First place)))) (append_assoc (sum_of n s) (plain Plus ∷ product_of n p) rest)
-      ∙ sum_read s n place (plain Plus ∷ (product_of n p ++ rest)) tt
+      ∙ sum_read s n place (plain Plus ∷ (product_of n p ++ rest)) k.0 tt
       ∙ stepped (behind_sum place s) (Lexeme (MarkToken Plus)) (Some (WantsFactor (FirstFactor (BehindPlus place s))))
       (symbols (product_of n p ++ rest)) (sum_adds place s)
-      ∙ product_read p n (BehindPlus place s) rest h
-  sum_read (Taken s p) n place rest h =
+      ∙ product_read p n (BehindPlus place s) rest k.1 h
+  sum_read (Taken s p) n place rest k h =
       ap (read_on (WantsFactor (FirstFactor (First place)))) (append_assoc (sum_of n s) (plain Minus ∷ product_of n p) rest)
-      ∙ sum_read s n place (plain Minus ∷ (product_of n p ++ rest)) tt
+      ∙ sum_read s n place (plain Minus ∷ (product_of n p ++ rest)) k.0 tt
       ∙ stepped (behind_sum place s) (Lexeme (MarkToken Minus)) (Some (WantsFactor (FirstFactor (BehindMinus place s))))
       (symbols (product_of n p ++ rest)) (sum_takes place s)
-      ∙ product_read p n (BehindMinus place s) rest h
+      ∙ product_read p n (BehindMinus place s) rest k.1 h
 
 -- a sentence is read to its end
-behind_left : (access : WrittenAccess) (accumulate : Bool) (rest : List Written)
+left_read : (access : WrittenAccess) (rest : List Written) → is_sum access.name ≡ false → Follows (symbols rest)
+    → run Start (symbols (access_of NamesLeft access ++ rest)) ≡ run (BehindLeft access) (symbols rest)
+left_read access rest k h =
+    stepped Start (Lexeme (NameToken access.name)) (Some (Named Left access.name)) (symbols (in_brackets access.vars ++ rest))
+    (ap (left_named access.name) k)
+    ∙ access_read Left access rest h
+
+behind_left : (access : WrittenAccess) (accumulate : Bool) (rest : List Written) → is_sum access.name ≡ false
     → run Start (symbols (access_of NamesLeft access ++ (plain (assigning accumulate) ∷ rest)))
     ≡ run (behind_mark access accumulate) (symbols rest)
-behind_left access false rest = access_read Left access (plain Equals ∷ rest) tt
-behind_left access true rest = access_read Left access (plain PlusEquals ∷ rest) tt
+behind_left access false rest k = left_read access (plain Equals ∷ rest) k tt
+behind_left access true rest k = left_read access (plain PlusEquals ∷ rest) k tt
 
-pub sentence_read : (w : Tree) → run Start (symbols (sentence_of w)) ≡ Some (Ended w)
-sentence_read w =
+pub sentence_read : (w : Tree) → HasNames w → run Start (symbols (sentence_of w)) ≡ Some (Ended w)
+sentence_read w k =
     let right = sum_of 0 w.right ++ (the_end ∷ []) in
     ap (read_on Start) (
     append_assoc (left_of w.left) (sum_of 0 w.right) (the_end ∷ [])
     ∙ append_assoc (access_of NamesLeft w.left.access) (plain (assigning w.left.accumulate) ∷ []) right)
-    ∙ behind_left w.left.access w.left.accumulate right
-    ∙ sum_read w.right 0 (OnTheRight w.left) (the_end ∷ []) tt
+    ∙ behind_left w.left.access w.left.accumulate right k.left
+    ∙ sum_read w.right 0 (OnTheRight w.left) (the_end ∷ []) k.right tt
     ∙ stepped (behind_sum (OnTheRight w.left) w.right) End (Some (Ended w)) [] (sum_ends (OnTheRight w.left) w.right)
 
 -- a state can be led to an end
@@ -169,6 +186,9 @@ mutual
   ends_sum (InBrackets at) place p e =
       ends_from (Behind place p) (Lexeme (MarkToken Close)) (behind_factor at (Bracketed (sum_with place p)))
       (ap (λ (x : SumPlace). closed x (sum_with place p)) e) (ends_factor at (Bracketed (sum_with place p)))
+  ends_sum (InSum at var) place p e =
+      ends_from (Behind place p) (Lexeme (MarkToken Close)) (behind_factor at (Summed var (sum_with place p)))
+      (ap (λ (x : SumPlace). closed x (sum_with place p)) e) (ends_factor at (Summed var (sum_with place p)))
 
   ends_product : (place : ProductPlace) (p : Product) → Ends (Behind place p)
   ends_product (First at) p = ends_sum at (First at) p refl
@@ -210,6 +230,15 @@ ends_variables side name vars =
 ends_named : (side : Side) (name : Name) → Ends (Named side name)
 ends_named side name = ends_from (Named side name) (Lexeme (MarkToken Open)) (WantsVariable side name []) refl (ends_variables side name [])
 
+ends_bound : (place : FactorPlace) (var : Name) → Ends (BehindBound place var)
+ends_bound place var =
+    let next = FirstFactor (First (InSum place var)) in
+    ends_from (BehindBound place var) (Lexeme (MarkToken Comma)) (WantsFactor next) refl (ends_place next)
+
+ends_wants_bound : (place : FactorPlace) → Ends (WantsBound place)
+ends_wants_bound place =
+    ends_from (WantsBound place) (Lexeme (NameToken a_name)) (BehindBound place a_name) refl (ends_bound place a_name)
+
 pub ends : (s : State) → Ends s
 ends Start = ends_from Start (Lexeme (NameToken a_name)) (Named Left a_name) refl (ends_named Left a_name)
 ends (Named side name) = ends_named side name
@@ -217,6 +246,9 @@ ends (WantsVariable side name vars) = ends_variables side name vars
 ends (BehindVariable side name vars var) = ends_variable side name vars var
 ends (BehindLeft access) = ends_left access
 ends (WantsFactor place) = ends_place place
+ends (NamedSum place) = ends_from (NamedSum place) (Lexeme (MarkToken Open)) (WantsBound place) refl (ends_wants_bound place)
+ends (WantsBound place) = ends_wants_bound place
+ends (BehindBound place var) = ends_bound place var
 ends (Behind place p) = ends_product place p
 ends (Ended tree) = record { rest = []; tree = tree; is = refl }
 
@@ -254,6 +286,13 @@ way (t ∷ ts) s last e =
       grown = w.grown ∙ ap (λ (ms : List Written). ms ++ w.ms) (grows s t f.0 f.1) ∙ append_assoc (before s) (read s t ∷ []) w.ms;
     }
 
+pub run_is_named : (ts : List Symbol) (s last : State) → run s ts ≡ Some last → AreNamed (before s) → AreNamed (before last)
+run_is_named [] s last e h = subst (λ (x : State). AreNamed (before x)) (some_is s last e) h
+run_is_named (t ∷ ts) s last e h =
+    let f = first_step (step s t) ts last e in
+    run_is_named ts f.0 last f.2 (subst AreNamed (sym (grows s t f.0 f.1))
+    (each_append (λ m. IsNamed m.role m.symbol) (before s) (read s t ∷ []) h (step_is_named s t f.0 f.1, tt)))
+
 -- a run parts where its symbols do
 pub run_parts : (ts us : List Symbol) (s last : State) → run s (ts ++ us) ≡ Some last
     → (next : State) × (run s ts ≡ Some next) × (run next us ≡ Some last)
@@ -287,7 +326,7 @@ StandsBehind ms s = (run Start (symbols ms) ≡ Some s) × (before s ≡ ms)
 pub begun_stands : (ms : List Written) → Begins ms → (s : State) × StandsBehind ms s
 begun_stands ms h =
     let all : run Start (symbols ms ++ symbols h.rest) ≡ Some (Ended h.tree) = ap (run Start) (sym (symbols_join ms h.rest)
-    ∙ ap symbols h.is) ∙ sentence_read h.tree in
+    ∙ ap symbols h.is) ∙ sentence_read h.tree h.names in
     let p = run_parts (symbols ms) (symbols h.rest) Start (Ended h.tree) all in
     let to = way (symbols ms) Start p.0 p.1 in
     let from = way (symbols h.rest) p.0 (Ended h.tree) p.2 in
@@ -301,7 +340,8 @@ stands_begins ts s e =
     let to = way ts Start s e in
     let end = ends s in
     let from = way end.rest s (Ended end.tree) end.is in
-    (record { tree = end.tree; rest = from.ms; is = sym from.grown }, ap symbols to.grown ∙ to.symbols_are)
+    let names = tree_names end.tree (run_is_named end.rest s (Ended end.tree) end.is (run_is_named ts Start s e tt)) in
+    (record { tree = end.tree; names = names; rest = from.ms; is = sym from.grown }, ap symbols to.grown ∙ to.symbols_are)
 
 -- symbols have one reading
 pub one_reading : (ms ns : List Written) → Begins ms → Begins ns → symbols ms ≡ symbols ns → ms ≡ ns
@@ -313,8 +353,9 @@ one_reading ms ns h k e =
     sym a.1.1 ∙ ap before states ∙ b.1.1
 
 -- a token list has one tree at most
-pub one_tree : (w v : Tree) → symbols (sentence_of w) ≡ symbols (sentence_of v) → w ≡ v
-one_tree w v e =
-    let same : ◌≡◌ {A = Option State} (Some (Ended w)) (Some (Ended v)) = sym (sentence_read w) ∙ ap (run Start) e ∙ sentence_read v in
+pub one_tree : (w v : Tree) → HasNames w → HasNames v → symbols (sentence_of w) ≡ symbols (sentence_of v) → w ≡ v
+one_tree w v h k e =
+    let same : ◌≡◌ {A = Option State} (Some (Ended w)) (Some (Ended v)) =
+    sym (sentence_read w h) ∙ ap (run Start) e ∙ sentence_read v k in
     let states : Ended w ≡ Ended v = cc in
     cc

@@ -4,22 +4,23 @@ use Rattle.std.specs.Prelude.{take, get_or, zero, suc, refl}
 use Rattle.std.proofs.Common.{sym, ◌∙◌, ap, subst, arith}
 use Rattle.std.proofs.lemmas.Bool.{ltb-false}
 use Rattle.std.proofs.Math.Seq.{take-suc}
-use Rattle.limits.specs.Limits.{greatest_operands, greatest_literal}
-use Rattle.index_notation.specs.declared.symbol.Symbol.{Symbol}
-use Rattle.index_notation.specs.declared.fault.Counted.TheVariants.{Operands}
-use Rattle.index_notation.specs.declared.fault.SymbolFault.{SymbolFault}
-use Rattle.index_notation.specs.declared.fault.SymbolFault.TheVariants.{TooMany, LiteralRange}
+use Rattle.limits.specs.Limits.{greatest_accesses, greatest_operands, greatest_literal}
+use Rattle.notation_grammar.specs.declared.symbol.Symbol.{Symbol}
+use Rattle.notation_grammar.specs.declared.fault.Counted.TheVariants.{Operands}
+use Rattle.notation_grammar.specs.declared.fault.SymbolFault.{SymbolFault}
+use Rattle.notation_grammar.specs.declared.fault.SymbolFault.TheVariants.{TooMany, LiteralRange}
 use Rattle.notation_reader.specs.declared.position.Lead.{Lead}
 use Rattle.notation_reader.specs.declared.position.Lead.TheVariants as lead
 use Rattle.notation_reader.specs.declared.position.Position.{Position}
 use Rattle.notation_reader.specs.declared.counts.Counts.{Counts}
 use Rattle.notation_reader.specs.declared.builder.Builder.{Builder}
-use Rattle.index_notation.specs.Grammar.{Tree}
-use Rattle.notation_reader.specs.Machine.{State, Start, Named, WantsVariable, BehindVariable, BehindLeft, WantsFactor, Behind, Ended, Left}
-use Rattle.notation_reader.specs.Machine.{Right, run}
+use Rattle.notation_grammar.specs.Grammar.{Tree, sentence_of}
+use Rattle.index_notation.specs.Numbering.{distinct}
+use Rattle.notation_reader.specs.Machine.{State, Start, Named, WantsVariable, BehindVariable, BehindLeft, WantsFactor, NamedSum}
+use Rattle.notation_reader.specs.Machine.{WantsBound, BehindBound, Behind, Ended, Left, Right, run, before}
 use Rattle.notation_reader.proofs.MachineLaws.{some_is}
 use Rattle.notation_reader.proofs.ReadingLaws.{sentence_read}
-use Rattle.index_notation.specs.Faults.{above, number_of, symbols_of, IsFirstFault, IsTreeOf}
+use Rattle.notation_grammar.specs.Faults.{above, number_of, variables_in, symbols_of, IsFirstFault, IsTreeOf}
 use Rattle.notation_reader.proofs.FaultLaws.{run_on, faultless_on, taken_has_no_fault}
 use Rattle.notation_reader.specs.Leads.{lead_of}
 use Rattle.notation_reader.specs.Shown.{show}
@@ -27,9 +28,10 @@ use Rattle.notation_reader.specs.Counting.{CountsSymbol, number_fault}
 use Rattle.notation_reader.specs.Judging.{IsRefused, IsTaken, HasLast}
 use Rattle.notation_reader.proofs.JudgingLaws.{Comes, fault_of, tree_found}
 use Rattle.notation_reader.specs.Building.{built, Builds}
-use Rattle.index_notation.specs.TreeStatement.{sum_expr, accesses_of_tree}
+use Rattle.notation_grammar.specs.TreeStatement.{sum_expr, accesses_of_tree}
+use Rattle.notation_reader.specs.Sums.{written_in_sum}
 use Rattle.index_notation.specs.declared.token.WrittenAccess.{WrittenAccess}
-use Rattle.index_notation.specs.declared.symbol.PlacedSymbol.{PlacedSymbol}
+use Rattle.notation_grammar.specs.declared.symbol.PlacedSymbol.{PlacedSymbol}
 use Rattle.notation_reader.specs.declared.reader.Reader.{Reader}
 use Rattle.notation_reader.specs.Accesses.{accesses_so_far, Mentions}
 use Rattle.notation_reader.specs.Reading.{Shows, IsTakenBy}
@@ -64,6 +66,9 @@ same_minuses (BehindVariable Left name vars var) = refl
 same_minuses (BehindVariable (Right place) name vars var) = refl
 same_minuses (BehindLeft access) = refl
 same_minuses (WantsFactor place) = refl
+same_minuses (NamedSum place) = refl
+same_minuses (WantsBound place) = refl
+same_minuses (BehindBound place var) = refl
 same_minuses (Behind place p) = refl
 same_minuses (Ended tree) = refl
 
@@ -121,22 +126,26 @@ pub read_minuses : (ts : List Symbol) (r : Reader) → HasRead ts r → r.builde
 read_minuses ts r h = ap (λ (x : Builder). x.frame.minuses) (sym h.is_built) ∙ same_minuses h.comes.state
     ∙ ap (λ (x : Position). x.minuses) h.comes.shows
 
--- the tree that is read, with its accesses and its expression
+-- the tree that is read, with its accesses, its variables, its nested sums and its expression
 pub record IsWholeTree (ts : List Symbol) (r : Reader) : Type 0 where
   pub tree : Tree
   pub is_tree : IsTreeOf ts tree
   pub accesses : r.accesses ≡ accesses_of_tree tree
-  pub expr : r.builder.result ≡ Some (sum_expr 0 tree.right)
+  pub vars : r.counts.vars ≡ distinct (variables_in (sentence_of tree))
+  pub sums : r.builder.sums ≡ written_in_sum 0 greatest_accesses tree.right
+  pub expr : r.builder.result ≡ Some (sum_expr 0 greatest_accesses tree.right)
 
 pub whole_tree : (ts : List Symbol) (r : Reader) → HasLast ts → HasRead ts r → IsWholeTree ts r
 whole_tree ts r l h =
     let f = tree_found ts r.position r.counts l h.comes in
-    let ran : run Start ts ≡ Some (Ended f.0) = ap (run Start) f.1.is ∙ sentence_read f.0 in
+    let ran : run Start ts ≡ Some (Ended f.0) = ap (run Start) f.1.is ∙ sentence_read f.0 f.1.names in
     let there : h.comes.state ≡ Ended f.0 = some_is h.comes.state (Ended f.0) (sym h.comes.runs ∙ ran) in
     record {
       tree = f.0;
       is_tree = f.1;
       accesses = sym h.accesses ∙ ap accesses_so_far there;
+      vars = h.comes.counted.vars ∙ ap (λ (s : State). distinct (variables_in (before s))) there;
+      sums = ap (λ (x : Builder). x.sums) (sym h.is_built) ∙ ap (λ (s : State). (built s).sums) there;
       expr = ap (λ (x : Builder). x.result) (sym h.is_built) ∙ ap (λ (s : State). (built s).result) there;
     }
 

@@ -5,13 +5,13 @@ use Rattle.std.proofs.lemmas.List.{length-drop}
 use Rattle.std.specs.List.{between}
 use Rattle.std.proofs.lemmas.Slice.{between_to_end}
 use Rattle.index_notation.specs.declared.token.Token.{Token}
-use Rattle.index_notation.specs.declared.symbol.Symbol.{Symbol}
-use Rattle.index_notation.specs.declared.symbol.Symbol.TheVariants.{Lexeme, End, Stray}
-use Rattle.index_notation.specs.declared.symbol.PlacedSymbol.{PlacedSymbol}
+use Rattle.notation_grammar.specs.declared.symbol.Symbol.{Symbol}
+use Rattle.notation_grammar.specs.declared.symbol.Symbol.TheVariants.{Lexeme, End, Stray}
+use Rattle.notation_grammar.specs.declared.symbol.PlacedSymbol.{PlacedSymbol}
 use Rattle.index_notation.specs.Tokens.{behind_blanks, IsNext}
 use Rattle.lists.specs.Blanks.{is_blank}
-use Rattle.index_notation.specs.Symbols.{first_byte, BeginsNoToken, StartsWith, AreSymbols}
-use Rattle.index_notation.specs.Faults.{symbols_of}
+use Rattle.notation_grammar.specs.Symbols.{first_byte, BeginsNoToken, StartsWith, AreSymbols}
+use Rattle.notation_grammar.specs.Faults.{symbols_of}
 use Rattle.notation_reader.specs.Judging.{IsLast, HasLast}
 use Rattle.notation_reader.proofs.Bytes.{behind_twice, behind_again}
 

@@ -1,26 +1,29 @@
 -- Each step of a state is what the reader's lead says.
-use Rattle.std.specs.Prelude.{◌≡◌, true, false, ℕ, suc, ◌+◌, ◌-◌, List, [], ◌∷◌, ◌++◌, refl}
+use Rattle.std.specs.Prelude.{◌≡◌, Bool, true, false, ℕ, suc, ◌+◌, ◌-◌, Some, List, [], ◌∷◌, ◌++◌, refl}
 use Rattle.std.proofs.Common.{sym, ◌∙◌, ap, arith}
 use Rattle.index_notation.specs.declared.syntax.Name.{Name}
 use Rattle.index_notation.specs.declared.token.Mark.TheVariants.{Equals, PlusEquals, Plus, Minus, Times, Open, Close, Comma}
 use Rattle.index_notation.specs.declared.token.Token.TheVariants.{Name as NameToken, Number as NumberToken, Mark as MarkToken}
 use Rattle.index_notation.specs.declared.token.WrittenAccess.{WrittenAccess}
-use Rattle.index_notation.specs.declared.symbol.Symbol.{Symbol}
-use Rattle.index_notation.specs.declared.symbol.Symbol.TheVariants.{Lexeme, End, Stray}
-use Rattle.index_notation.specs.Grammar.{Factor, Digits, Read, Bracketed, Product, Sum, Tree, Opens, Plain}
-use Rattle.notation_reader.specs.Machine.{SumPlace, OnTheRight, InBrackets, ProductPlace, First, BehindPlus, BehindMinus, FactorPlace}
-use Rattle.notation_reader.specs.Machine.{FirstFactor, BehindTimes, BehindSign, sum_levels, product_levels, levels, its_product}
-use Rattle.notation_reader.specs.Machine.{product_with, its_sum, sum_with, Side, Left, Right, State, Start, Named, WantsVariable}
-use Rattle.notation_reader.specs.Machine.{BehindVariable, BehindLeft, WantsFactor, Behind, Ended, behind_factor, behind_mark, closed, ended}
-use Rattle.notation_reader.specs.Machine.{step_behind, step, count_on, role}
+use Rattle.notation_grammar.specs.declared.symbol.Symbol.{Symbol}
+use Rattle.notation_grammar.specs.declared.symbol.Symbol.TheVariants.{Lexeme, End, Stray}
+use Rattle.notation_grammar.specs.Grammar.{Factor, Digits, Read, Bracketed, Summed, Product, Sum, Tree, NamesLeft, Opens, Plain}
+use Rattle.notation_grammar.specs.Grammar.{is_sum}
+use Rattle.notation_reader.specs.Machine.{SumPlace, OnTheRight, InBrackets, InSum, ProductPlace, First, BehindPlus, BehindMinus}
+use Rattle.notation_reader.specs.Machine.{FactorPlace, FirstFactor, BehindTimes, BehindSign, sum_levels, product_levels, levels}
+use Rattle.notation_reader.specs.Machine.{its_product, product_with, its_sum, sum_with, Side, Left, Right, State, Start, Named}
+use Rattle.notation_reader.specs.Machine.{WantsVariable, BehindVariable, BehindLeft, WantsFactor, NamedSum, WantsBound, BehindBound}
+use Rattle.notation_reader.specs.Machine.{Behind, Ended, behind_factor, behind_mark, closed, ended, left_named, factor_named}
+use Rattle.notation_reader.specs.Machine.{step_behind, step, count_on, role_of_named, role}
 use Rattle.notation_reader.specs.declared.position.Stand.{Stand}
 use Rattle.notation_reader.specs.declared.position.Stand.TheVariants as stand
 use Rattle.notation_reader.specs.declared.position.Lead.{Lead}
 use Rattle.notation_reader.specs.declared.position.Lead.TheVariants as lead
 use Rattle.notation_reader.specs.declared.position.Position.{Position}
 use Rattle.notation_reader.proofs.FaultLaws.{last_once}
-use Rattle.notation_reader.specs.Leads.{factor_leads, lead_of}
-use Rattle.notation_reader.specs.Shown.{minuses_of, outer_of_sum, outer_of_product, outer_of, at_place, show, finished, out_of_bracket}
+use Rattle.notation_reader.specs.Leads.{factor_leads, left_named_leads, factor_named_leads, lead_of}
+use Rattle.notation_reader.specs.Shown.{minuses_of, outer_of_sum, outer_of_product, outer_of, at_place, show, finished}
+use Rattle.notation_reader.specs.Shown.{out_of_bracket}
 use Rattle.notation_reader.proofs.Doing.{Does}
 
 no_levels_without_minuses : (n m k : ℕ) → n ≡ m + k → n - m ≡ k
@@ -63,12 +66,12 @@ full : {A X : Type 0} (xs : List X) (x : X) → xs ++ (x ∷ []) ≡ [] → A
 full [] x e = absurd (let no = e in cc)
 full (y ∷ xs) x e = absurd (let no = e in cc)
 
-closing : (place : FactorPlace) (s : Sum) (r : Position) (front : List ℕ) (m : ℕ) → r.levels - r.minuses ≡ suc (levels place)
-    → outer_of place ++ (minuses_of place ∷ []) ≡ front ++ (m ∷ []) → show (behind_factor place (Bracketed s)) ≡ out_of_bracket r front m
-closing place s r front m e k =
+closing : (place : FactorPlace) (f : Factor) (r : Position) (front : List ℕ) (m : ℕ) → r.levels - r.minuses ≡ suc (levels place)
+    → outer_of place ++ (minuses_of place ∷ []) ≡ front ++ (m ∷ []) → show (behind_factor place f) ≡ out_of_bracket r front m
+closing place f r front m e k =
     let both = last_once (outer_of place) front (minuses_of place) m k in
     let lev : levels place ≡ (r.levels - r.minuses) - 1 = omega (arith, e) in
-    factor_shows place (Bracketed s) stand.Factor
+    factor_shows place f stand.Factor
     ∙ (λ i. finished (record { stand = stand.Factor; levels = lev i; minuses = both.1 i; outer = both.0 i }))
 
 closed_does : (at : SumPlace) (s : Sum) (r : Position) → r.levels - r.minuses ≡ sum_levels at → r.outer ≡ outer_of_sum at
@@ -76,7 +79,12 @@ closed_does : (at : SumPlace) (s : Sum) (r : Position) → r.levels - r.minuses 
 closed_does (OnTheRight left) s r e k = ((λ none. refl), (λ front m h. full front m (sym h ∙ k)), tt)
 closed_does (InBrackets place) s r e k = (
   (λ none. full (outer_of place) (minuses_of place) (sym k ∙ none)),
-  (λ front m h. (behind_factor place (Bracketed s), refl, closing place s r front m e (sym k ∙ h))),
+  (λ front m h. (behind_factor place (Bracketed s), refl, closing place (Bracketed s) r front m e (sym k ∙ h))),
+  tt,
+)
+closed_does (InSum place var) s r e k = (
+  (λ none. full (outer_of place) (minuses_of place) (sym k ∙ none)),
+  (λ front m h. (behind_factor place (Summed var s), refl, closing place (Summed var s) r front m e (sym k ∙ h))),
   tt,
 )
 
@@ -84,6 +92,7 @@ ended_does : (at : SumPlace) (s : Sum) (r : Position) → r.outer ≡ outer_of_s
 ended_does (OnTheRight left) s r k =
     ((λ none. (Ended (record { left = left; right = s }), refl, refl)), (λ front m h. full front m (sym h ∙ k)), tt)
 ended_does (InBrackets place) s r k = ((λ none. full (outer_of place) (minuses_of place) (sym k ∙ none)), (λ front m h. refl), tt)
+ended_does (InSum place var) s r k = ((λ none. full (outer_of place) (minuses_of place) (sym k ∙ none)), (λ front m h. refl), tt)
 
 -- what a symbol does behind a factor
 abbrev pub behind_leads : Symbol → Lead
@@ -143,8 +152,12 @@ scalar_does place name t =
 abbrev DoesAs : State → Symbol → Type 0
 DoesAs s t = Does (step s t) (show s) (role s t) (lead_of (show s).stand t)
 
+left_named_does : (name : Name) (b : Bool) → Does (left_named name b) (show Start) NamesLeft (left_named_leads b)
+left_named_does name true = refl
+left_named_does name false = ((Named Left name, refl, refl), tt)
+
 start_does : (t : Symbol) → DoesAs Start t
-start_does (Lexeme (NameToken name)) = ((Named Left name, refl, refl), tt)
+start_does (Lexeme (NameToken name)) = left_named_does name (is_sum name)
 start_does _ = refl
 
 left_name_does : (name : Name) (t : Symbol) → DoesAs (Named Left name) t
@@ -194,10 +207,18 @@ left_does access (Lexeme (MarkToken Equals)) = ((behind_mark access false, refl,
 left_does access (Lexeme (MarkToken PlusEquals)) = ((behind_mark access true, refl, refl), tt)
 left_does access _ = refl
 
+factor_named_does : (place : FactorPlace) (name : Name) (b : Bool)
+    → Does (Some (factor_named place name b)) (show (WantsFactor place)) (role_of_named b) (factor_named_leads b)
+factor_named_does place name true = ((NamedSum place, refl, refl), tt)
+factor_named_does place name false = ((Named (Right place) name, refl, refl), refl)
+
+level_more : (n : ℕ) → Opens (suc n) ≡ Opens (n + 1)
+level_more n = ap (λ k. Opens k) (let h : suc n ≡ n + 1 = omega arith in h)
+
 wants_does : (place : FactorPlace) (t : Symbol) → DoesAs (WantsFactor place) t
 wants_does place (Lexeme (NumberToken digits)) =
     ((behind_factor place (Digits digits), refl, factor_shows place (Digits digits) stand.Operator), refl)
-wants_does place (Lexeme (NameToken name)) = ((Named (Right place) name, refl, refl), refl)
+wants_does place (Lexeme (NameToken name)) = factor_named_does place name (is_sum name)
 wants_does place (Lexeme (MarkToken Open)) = (
   (
     WantsFactor (FirstFactor (First (InBrackets place))),
@@ -205,8 +226,7 @@ wants_does place (Lexeme (MarkToken Open)) = (
     joined (suc (levels place)) (levels place + 1)
         (outer_of_sum (InBrackets place)) (outer_of_sum (InBrackets place)) (omega arith) refl,
   ),
-  ap (λ n. Opens n)
-      (let h : suc (levels place) ≡ levels place + 1 = omega arith in h),
+  level_more (levels place),
 )
 wants_does place (Lexeme (MarkToken Minus)) = (
   (
@@ -215,10 +235,29 @@ wants_does place (Lexeme (MarkToken Minus)) = (
     reader_of stand.Operator (suc (levels place)) (levels place + 1) (minuses_of place + 1)
         (outer_of place) (outer_of place) (omega arith) refl,
   ),
-  ap (λ n. Opens n) (let h : suc (levels place) ≡ levels place + 1 =
-      omega arith in h),
+  level_more (levels place),
 )
 wants_does place _ = refl
+
+named_sum_does : (place : FactorPlace) (t : Symbol) → DoesAs (NamedSum place) t
+named_sum_does place (Lexeme (MarkToken Open)) = ((WantsBound place, refl, refl), level_more (levels place))
+named_sum_does place _ = refl
+
+wants_bound_does : (place : FactorPlace) (t : Symbol) → DoesAs (WantsBound place) t
+wants_bound_does place (Lexeme (NameToken var)) = ((BehindBound place var, refl, refl), refl)
+wants_bound_does place _ = refl
+
+bound_does : (place : FactorPlace) (var : Name) (t : Symbol) → DoesAs (BehindBound place var) t
+bound_does place var (Lexeme (MarkToken Comma)) = (
+  (
+    WantsFactor (FirstFactor (First (InSum place var))),
+    refl,
+    joined (suc (levels place)) (levels place + 1)
+        (outer_of_sum (InSum place var)) (outer_of_sum (InSum place var)) (omega arith) refl,
+  ),
+  tt,
+)
+bound_does place var _ = refl
 
 behind_factor_does : (place : ProductPlace) (p : Product) (t : Symbol) → DoesAs (Behind place p) t
 behind_factor_does place p (Lexeme (NameToken name)) = refl
@@ -244,5 +283,8 @@ does (WantsVariable side name vars) t = wants_variable_does side name vars t
 does (BehindVariable side name vars var) t = variable_does side name vars var t
 does (BehindLeft access) t = left_does access t
 does (WantsFactor place) t = wants_does place t
+does (NamedSum place) t = named_sum_does place t
+does (WantsBound place) t = wants_bound_does place t
+does (BehindBound place var) t = bound_does place var t
 does (Behind place p) t = behind_factor_does place p t
 does (Ended tree) t = ended_state_does tree t

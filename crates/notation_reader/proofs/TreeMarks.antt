@@ -1,11 +1,9 @@
 -- The mark behind the left side of a sentence is the first of its marks.
 use Rattle.std.specs.Prelude.{◌≡◌, Bool, true, false, List, [], ◌∷◌, ◌++◌, refl}
-use Rattle.std.proofs.Common.{sym, ◌∙◌, ap, append_assoc}
+use Rattle.std.proofs.Common.{◌∙◌, ap, append_assoc}
 use Rattle.index_notation.specs.declared.syntax.Name.{Name}
-use Rattle.index_notation.specs.declared.token.WrittenAccess.{WrittenAccess}
-use Rattle.index_notation.specs.declared.symbol.Symbol.{Symbol}
-use Rattle.index_notation.specs.Grammar.{Tree, NamesLeft, Written, plain, the_end, assigning, access_of, sum_of, left_of, sentence_of}
-use Rattle.index_notation.specs.Grammar.{more_variables, in_brackets, symbols}
+use Rattle.notation_grammar.specs.Grammar.{Tree, NamesLeft, Written, plain, the_end, assigning, access_of, sum_of, left_of, sentence_of}
+use Rattle.notation_grammar.specs.Grammar.{more_variables, in_brackets, symbols}
 use Rattle.notation_reader.specs.Assigning.{accumulates}
 
 more_assign : (n : _) (vars : List Name) (ms : List Written)

@@ -3,19 +3,21 @@ use Rattle.std.specs.Prelude.{◌≡◌, List, [], ◌∷◌, ◌++◌}
 use Rattle.index_notation.specs.declared.syntax.Name.{Name}
 use Rattle.index_notation.specs.declared.token.Token.TheVariants.{Name as NameToken}
 use Rattle.index_notation.specs.declared.token.WrittenAccess.{WrittenAccess}
-use Rattle.index_notation.specs.declared.symbol.Symbol.{Symbol}
-use Rattle.index_notation.specs.declared.symbol.Symbol.TheVariants.{Lexeme}
-use Rattle.index_notation.specs.TreeStatement.{accesses_of_product, accesses_of_sum, accesses_of_tree}
+use Rattle.notation_grammar.specs.declared.symbol.Symbol.{Symbol}
+use Rattle.notation_grammar.specs.declared.symbol.Symbol.TheVariants.{Lexeme}
+use Rattle.notation_grammar.specs.TreeStatement.{accesses_of_product, accesses_of_sum, accesses_of_tree}
 use Rattle.notation_reader.specs.declared.position.Lead.{Lead}
 use Rattle.notation_reader.specs.declared.position.Lead.TheVariants as lead
-use Rattle.notation_reader.specs.Machine.{SumPlace, OnTheRight, InBrackets, ProductPlace, First, BehindPlus, BehindMinus}
-use Rattle.notation_reader.specs.Machine.{FactorPlace, FirstFactor, BehindTimes, BehindSign, Side, Left, Right}
-use Rattle.notation_reader.specs.Machine.{State, Start, Named, WantsVariable, BehindVariable, BehindLeft, WantsFactor, Behind, Ended}
+use Rattle.notation_reader.specs.Machine.{SumPlace, OnTheRight, InBrackets, InSum, ProductPlace, First, BehindPlus, BehindMinus}
+use Rattle.notation_reader.specs.Machine.{FactorPlace, FirstFactor, BehindTimes, BehindSign, Side, Left, Right, State, Start, Named}
+use Rattle.notation_reader.specs.Machine.{WantsVariable, BehindVariable, BehindLeft, WantsFactor, NamedSum, WantsBound, BehindBound}
+use Rattle.notation_reader.specs.Machine.{Behind, Ended}
 
 abbrev mutual
   pub accesses_to_sum : SumPlace → List WrittenAccess
   accesses_to_sum (OnTheRight left) = left.access ∷ []
   accesses_to_sum (InBrackets place) = accesses_to place
+  accesses_to_sum (InSum place var) = accesses_to place
 
   pub accesses_to_product : ProductPlace → List WrittenAccess
   accesses_to_product (First place) = accesses_to_sum place
@@ -42,6 +44,9 @@ accesses_so_far (WantsVariable side name vars) = accesses_before side ++ (access
 accesses_so_far (BehindVariable side name vars var) = accesses_before side ++ (access_to name (vars ++ (var ∷ [])) ∷ [])
 accesses_so_far (BehindLeft access) = access ∷ []
 accesses_so_far (WantsFactor place) = accesses_to place
+accesses_so_far (NamedSum place) = accesses_to place
+accesses_so_far (WantsBound place) = accesses_to place
+accesses_so_far (BehindBound place var) = accesses_to place
 accesses_so_far (Behind place product) = accesses_to_product place ++ accesses_of_product product
 accesses_so_far (Ended tree) = accesses_of_tree tree
 
@@ -54,5 +59,7 @@ Extends var old new =
 -- what a symbol that leads so does to the accesses
 abbrev pub Mentions : Symbol → Lead → List WrittenAccess → List WrittenAccess → Type 0
 Mentions (Lexeme (NameToken var)) (lead.Variable at) old new = Extends var old new
+Mentions (Lexeme (NameToken name)) lead.Sum old new = new ≡ old
+Mentions (Lexeme (NameToken name)) lead.Bound old new = new ≡ old
 Mentions (Lexeme (NameToken name)) _ old new = new ≡ old ++ (access_to name [] ∷ [])
 Mentions _ _ old new = new ≡ old

@@ -2,8 +2,8 @@
 use Rattle.std.specs.Prelude.{Bool, true, false, Option, Some, None, unwrap_or, List, [], ◌∷◌}
 use Rattle.index_notation.specs.declared.token.Mark.TheVariants.{Equals, PlusEquals}
 use Rattle.index_notation.specs.declared.token.Token.TheVariants.{Mark as MarkToken}
-use Rattle.index_notation.specs.declared.symbol.Symbol.{Symbol}
-use Rattle.index_notation.specs.declared.symbol.Symbol.TheVariants.{Lexeme}
+use Rattle.notation_grammar.specs.declared.symbol.Symbol.{Symbol}
+use Rattle.notation_grammar.specs.declared.symbol.Symbol.TheVariants.{Lexeme}
 
 -- whether a symbol adds to the old tensor, if it is the mark
 abbrev pub assigns : Symbol → Option Bool

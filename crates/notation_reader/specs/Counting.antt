@@ -5,17 +5,17 @@ use Rattle.limits.specs.Limits.{greatest_literal}
 use Rattle.index_notation.specs.Numbering.{distinct}
 use Rattle.index_notation.specs.declared.syntax.Name.{Name}
 use Rattle.index_notation.specs.declared.token.Token.TheVariants.{Name as NameToken}
-use Rattle.index_notation.specs.declared.symbol.Symbol.{Symbol}
-use Rattle.index_notation.specs.declared.symbol.Symbol.TheVariants.{Lexeme}
-use Rattle.index_notation.specs.declared.fault.Counted.TheVariants.{Order, Variables, Accesses, Operands}
-use Rattle.index_notation.specs.declared.fault.SymbolFault.{SymbolFault}
-use Rattle.index_notation.specs.declared.fault.SymbolFault.TheVariants.{TooDeep, TooMany, LiteralRange}
+use Rattle.notation_grammar.specs.declared.symbol.Symbol.{Symbol}
+use Rattle.notation_grammar.specs.declared.symbol.Symbol.TheVariants.{Lexeme}
+use Rattle.notation_grammar.specs.declared.fault.Counted.TheVariants.{Order, Variables, Accesses, Operands}
+use Rattle.notation_grammar.specs.declared.fault.SymbolFault.{SymbolFault}
+use Rattle.notation_grammar.specs.declared.fault.SymbolFault.TheVariants.{TooDeep, TooMany, LiteralRange}
 use Rattle.notation_reader.specs.declared.position.Lead.{Lead}
 use Rattle.notation_reader.specs.declared.position.Lead.TheVariants as lead
 use Rattle.notation_reader.specs.declared.counts.Counts.{Counts}
-use Rattle.notation_reader.specs.Machine.{State, Start, Named, WantsVariable, BehindVariable, BehindLeft, WantsFactor, Behind, Ended}
-use Rattle.notation_reader.specs.Machine.{before}
-use Rattle.index_notation.specs.Faults.{above, number_of, variables_in, accesses_in, operands_in}
+use Rattle.notation_reader.specs.Machine.{State, Start, Named, WantsVariable, BehindVariable, BehindLeft, WantsFactor, NamedSum}
+use Rattle.notation_reader.specs.Machine.{WantsBound, BehindBound, Behind, Ended, before}
+use Rattle.notation_grammar.specs.Faults.{above, number_of, variables_in, accesses_in, operands_in}
 use Rattle.notation_reader.specs.Added.{with_name}
 
 -- so many variables of the access that is read
@@ -26,6 +26,9 @@ OrderIs (WantsVariable side name vars) n = n ≡ length vars
 OrderIs (BehindVariable side name vars var) n = n ≡ length vars + 1
 OrderIs (BehindLeft access) n = Unit {0}
 OrderIs (WantsFactor place) n = Unit {0}
+OrderIs (NamedSum place) n = Unit {0}
+OrderIs (WantsBound place) n = Unit {0}
+OrderIs (BehindBound place var) n = Unit {0}
 OrderIs (Behind place p) n = Unit {0}
 OrderIs (Ended tree) n = Unit {0}
 
@@ -38,6 +41,9 @@ pub record IsCounted (s : State) (c : Counts) : Type 0 where
 abbrev pub with_variable : Name → Counts → Counts
 with_variable name c = record { order = c.order + 1; vars = with_name c.vars name; accesses = c.accesses; operands = c.operands }
 
+abbrev pub with_bound : Name → Counts → Counts
+with_bound name c = record { order = c.order; vars = with_name c.vars name; accesses = c.accesses; operands = c.operands }
+
 abbrev pub with_access : Counts → Counts
 with_access c = record { order = 0; vars = c.vars; accesses = c.accesses + 1; operands = c.operands + 1 }
 
@@ -48,6 +54,9 @@ abbrev pub variable_fault : Counts → Name → Option SymbolFault
 variable_fault c name =
     above greatest_order (c.order + 1) (TooMany Order)
     (above greatest_variables (length (with_name c.vars name)) (TooMany Variables) None)
+
+abbrev pub bound_fault : Counts → Name → Option SymbolFault
+bound_fault c name = above greatest_variables (length (with_name c.vars name)) (TooMany Variables) None
 
 abbrev pub access_fault : Counts → Option SymbolFault
 access_fault c =
@@ -67,10 +76,12 @@ abbrev pub CountsAs : Option SymbolFault → Counts → Option SymbolFault → C
 CountsAs due after fault new = (fault ≡ due) × (due ≡ None → new ≡ after)
 
 abbrev pub CountsSymbol : Counts → ℕ → Symbol → Lead → Option SymbolFault → Counts → Type 0
-CountsSymbol c levels symbol lead.Bracket fault new = CountsAs (level_fault levels) c fault new
+CountsSymbol c levels symbol (lead.Bracket at) fault new = CountsAs (level_fault levels) c fault new
 CountsSymbol c levels symbol lead.Minus fault new = CountsAs (level_fault levels) c fault new
 CountsSymbol c levels symbol (lead.Variable at) fault new =
     (name : Name) → symbol ≡ Lexeme (NameToken name) → CountsAs (variable_fault c name) (with_variable name c) fault new
+CountsSymbol c levels symbol lead.Bound fault new =
+    (name : Name) → symbol ≡ Lexeme (NameToken name) → CountsAs (bound_fault c name) (with_bound name c) fault new
 CountsSymbol c levels symbol lead.Name fault new = CountsAs (access_fault c) (with_access c) fault new
 CountsSymbol c levels symbol lead.Number fault new = CountsAs (number_fault c symbol) (with_number c) fault new
 CountsSymbol c levels symbol _ fault new = CountsAs None c fault new

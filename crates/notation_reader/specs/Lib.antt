@@ -5,6 +5,7 @@ pub mod Moves
 pub mod Added
 pub mod Counting
 pub mod Accesses
+pub mod Sums
 pub mod Building
 pub mod Judging
 pub mod Reading

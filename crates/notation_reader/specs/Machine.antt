@@ -4,17 +4,18 @@ use Rattle.index_notation.specs.declared.syntax.Name.{Name}
 use Rattle.index_notation.specs.declared.token.Mark.TheVariants.{Equals, PlusEquals, Plus, Minus, Times, Open, Close, Comma}
 use Rattle.index_notation.specs.declared.token.Token.TheVariants.{Name as NameToken, Number as NumberToken, Mark as MarkToken}
 use Rattle.index_notation.specs.declared.token.WrittenAccess.{WrittenAccess}
-use Rattle.index_notation.specs.declared.symbol.Symbol.{Symbol}
-use Rattle.index_notation.specs.declared.symbol.Symbol.TheVariants.{Lexeme, End}
-use Rattle.index_notation.specs.Grammar.{Factor, Digits, Read, Bracketed, Negated, Product, Lone, Multiplied, Sum, Alone, Added, Taken}
-use Rattle.index_notation.specs.Grammar.{LeftSide, Tree, Role, NamesLeft, NamesRight, IsVariable, IsNumber, Opens, Plain, Written, written}
-use Rattle.index_notation.specs.Grammar.{plain, access_of, product_of, sum_of, left_of, sentence_of}
+use Rattle.notation_grammar.specs.declared.symbol.Symbol.{Symbol}
+use Rattle.notation_grammar.specs.declared.symbol.Symbol.TheVariants.{Lexeme, End}
+use Rattle.notation_grammar.specs.Grammar.{Factor, Digits, Read, Bracketed, Negated, Summed, Product, Lone, Multiplied, Sum, Alone, Added}
+use Rattle.notation_grammar.specs.Grammar.{Taken, sum_name, is_sum, LeftSide, Tree, Role, NamesLeft, NamesRight, IsVariable, Binds, IsNumber}
+use Rattle.notation_grammar.specs.Grammar.{Opens, Plain, Written, written, plain, access_of, product_of, sum_of, left_of, sentence_of}
 
 -- a place where a sum, a product or a factor is wanted, with all that stands before it
 mutual
   pub data SumPlace : Type 0 where
     OnTheRight : LeftSide → SumPlace
     InBrackets : FactorPlace → SumPlace
+    InSum : FactorPlace → Name → SumPlace
 
   pub data ProductPlace : Type 0 where
     First : SumPlace → ProductPlace
@@ -30,6 +31,7 @@ abbrev mutual
   pub sum_levels : SumPlace → ℕ
   sum_levels (OnTheRight left) = 0
   sum_levels (InBrackets place) = suc (levels place)
+  sum_levels (InSum place var) = suc (levels place)
 
   pub product_levels : ProductPlace → ℕ
   product_levels (First place) = sum_levels place
@@ -42,11 +44,23 @@ abbrev mutual
   levels (BehindTimes place product) = product_levels place
   levels (BehindSign place) = suc (levels place)
 
+-- the name with which a nested sum begins, and the bracket and the variable behind it
+abbrev pub sum_begins : Written
+sum_begins = written (NameToken sum_name) Plain
+
+abbrev pub opens_at : ℕ → Written
+opens_at n = written (MarkToken Open) (Opens (suc n))
+
+abbrev pub binds : Name → Written
+binds var = written (NameToken var) Binds
+
 -- what stands before a place
 abbrev mutual
   pub before_sum : SumPlace → List Written
   before_sum (OnTheRight left) = left_of left
-  before_sum (InBrackets place) = before_factor place ++ (written (MarkToken Open) (Opens (suc (levels place))) ∷ [])
+  before_sum (InBrackets place) = before_factor place ++ (opens_at (levels place) ∷ [])
+  before_sum (InSum place var) =
+      (((before_factor place ++ (sum_begins ∷ [])) ++ (opens_at (levels place) ∷ [])) ++ (binds var ∷ [])) ++ (plain Comma ∷ [])
 
   pub before_product : ProductPlace → List Written
   before_product (First place) = before_sum place
@@ -91,6 +105,9 @@ pub data State : Type 0 where
   BehindVariable : Side → Name → List Name → Name → State
   BehindLeft : WrittenAccess → State
   WantsFactor : FactorPlace → State
+  NamedSum : FactorPlace → State
+  WantsBound : FactorPlace → State
+  BehindBound : FactorPlace → Name → State
   Behind : ProductPlace → Product → State
   Ended : Tree → State
 
@@ -105,10 +122,12 @@ behind_access (Right place) access = behind_factor place (Read access)
 abbrev pub closed : SumPlace → Sum → Option State
 closed (OnTheRight left) sum = None
 closed (InBrackets place) sum = Some (behind_factor place (Bracketed sum))
+closed (InSum place var) sum = Some (behind_factor place (Summed var sum))
 
 abbrev pub ended : SumPlace → Sum → Option State
 ended (OnTheRight left) sum = Some (Ended (record { left = left; right = sum }))
 ended (InBrackets place) sum = None
+ended (InSum place var) sum = None
 
 -- behind the left side's mark
 abbrev pub behind_mark : WrittenAccess → Bool → State
@@ -137,8 +156,17 @@ abbrev pub step_named : Side → Name → Symbol → Option State
 step_named side name (Lexeme (MarkToken Open)) = Some (WantsVariable side name [])
 step_named side name symbol = step_scalar side name symbol
 
+-- behind a name that is `sum` or another one: of the left side, and where a factor is wanted
+abbrev pub left_named : Name → Bool → Option State
+left_named name true = None
+left_named name false = Some (Named Left name)
+
+abbrev pub factor_named : FactorPlace → Name → Bool → State
+factor_named place name true = NamedSum place
+factor_named place name false = Named (Right place) name
+
 abbrev pub step_start : Symbol → Option State
-step_start (Lexeme (NameToken name)) = Some (Named Left name)
+step_start (Lexeme (NameToken name)) = left_named name (is_sum name)
 step_start _ = None
 
 abbrev pub step_wants_variable : Side → Name → List Name → Symbol → Option State
@@ -153,10 +181,22 @@ step_behind_variable side name vars var _ = None
 
 abbrev pub step_wants_factor : FactorPlace → Symbol → Option State
 step_wants_factor place (Lexeme (NumberToken digits)) = Some (behind_factor place (Digits digits))
-step_wants_factor place (Lexeme (NameToken name)) = Some (Named (Right place) name)
+step_wants_factor place (Lexeme (NameToken name)) = Some (factor_named place name (is_sum name))
 step_wants_factor place (Lexeme (MarkToken Open)) = Some (WantsFactor (FirstFactor (First (InBrackets place))))
 step_wants_factor place (Lexeme (MarkToken Minus)) = Some (WantsFactor (BehindSign place))
 step_wants_factor place _ = None
+
+abbrev pub step_named_sum : FactorPlace → Symbol → Option State
+step_named_sum place (Lexeme (MarkToken Open)) = Some (WantsBound place)
+step_named_sum place _ = None
+
+abbrev pub step_wants_bound : FactorPlace → Symbol → Option State
+step_wants_bound place (Lexeme (NameToken var)) = Some (BehindBound place var)
+step_wants_bound place _ = None
+
+abbrev pub step_behind_bound : FactorPlace → Name → Symbol → Option State
+step_behind_bound place var (Lexeme (MarkToken Comma)) = Some (WantsFactor (FirstFactor (First (InSum place var))))
+step_behind_bound place var _ = None
 
 -- where a symbol leads
 abbrev pub step : State → Symbol → Option State
@@ -166,6 +206,9 @@ step (WantsVariable side name vars) symbol = step_wants_variable side name vars 
 step (BehindVariable side name vars var) symbol = step_behind_variable side name vars var symbol
 step (BehindLeft access) symbol = step_behind_left access symbol
 step (WantsFactor place) symbol = step_wants_factor place symbol
+step (NamedSum place) symbol = step_named_sum place symbol
+step (WantsBound place) symbol = step_wants_bound place symbol
+step (BehindBound place var) symbol = step_behind_bound place var symbol
 step (Behind place product) symbol = step_behind place product symbol
 step (Ended tree) symbol = None
 
@@ -200,6 +243,10 @@ before (BehindVariable side name vars var) =
     variables_so_far side name vars ++ (written (NameToken var) (IsVariable (count_on 1 vars)) ∷ [])
 before (BehindLeft access) = access_of NamesLeft access
 before (WantsFactor place) = before_factor place
+before (NamedSum place) = before_factor place ++ (sum_begins ∷ [])
+before (WantsBound place) = (before_factor place ++ (sum_begins ∷ [])) ++ (opens_at (levels place) ∷ [])
+before (BehindBound place var) =
+    ((before_factor place ++ (sum_begins ∷ [])) ++ (opens_at (levels place) ∷ [])) ++ (binds var ∷ [])
 before (Behind place product) = before_product place ++ product_of (product_levels place) product
 before (Ended tree) = sentence_of tree
 
@@ -207,9 +254,13 @@ abbrev pub role_of_name : Side → Role
 role_of_name Left = NamesLeft
 role_of_name (Right place) = NamesRight
 
+abbrev pub role_of_named : Bool → Role
+role_of_named true = Plain
+role_of_named false = NamesRight
+
 abbrev pub role_of_factor : FactorPlace → Symbol → Role
 role_of_factor place (Lexeme (NumberToken digits)) = IsNumber
-role_of_factor place (Lexeme (NameToken name)) = NamesRight
+role_of_factor place (Lexeme (NameToken name)) = role_of_named (is_sum name)
 role_of_factor place _ = Opens (suc (levels place))
 
 -- the role of a symbol that leads on
@@ -217,6 +268,8 @@ abbrev pub role : State → Symbol → Role
 role Start symbol = NamesLeft
 role (WantsVariable side name vars) symbol = IsVariable (count_on 1 vars)
 role (WantsFactor place) symbol = role_of_factor place symbol
+role (NamedSum place) symbol = Opens (suc (levels place))
+role (WantsBound place) symbol = Binds
 role _ symbol = Plain
 
 abbrev pub read : State → Symbol → Written

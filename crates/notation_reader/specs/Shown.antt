@@ -3,9 +3,10 @@ use Rattle.std.specs.Prelude.{ℕ, ◌+◌, ◌-◌, List, [], ◌∷◌, ◌++�
 use Rattle.notation_reader.specs.declared.position.Stand.{Stand}
 use Rattle.notation_reader.specs.declared.position.Stand.TheVariants as stand
 use Rattle.notation_reader.specs.declared.position.Position.{Position}
-use Rattle.notation_reader.specs.Machine.{SumPlace, OnTheRight, InBrackets, ProductPlace, First, BehindPlus, BehindMinus, FactorPlace}
-use Rattle.notation_reader.specs.Machine.{FirstFactor, BehindTimes, BehindSign, product_levels, levels, Side, Left, Right, State}
-use Rattle.notation_reader.specs.Machine.{Start, Named, WantsVariable, BehindVariable, BehindLeft, WantsFactor, Behind, Ended}
+use Rattle.notation_reader.specs.Machine.{SumPlace, OnTheRight, InBrackets, InSum, ProductPlace, First, BehindPlus, BehindMinus}
+use Rattle.notation_reader.specs.Machine.{FactorPlace, FirstFactor, BehindTimes, BehindSign, product_levels, levels, Side, Left, Right}
+use Rattle.notation_reader.specs.Machine.{State, Start, Named, WantsVariable, BehindVariable, BehindLeft, WantsFactor, NamedSum}
+use Rattle.notation_reader.specs.Machine.{WantsBound, BehindBound, Behind, Ended}
 
 -- the prefix minuses right before a place
 abbrev pub minuses_of : FactorPlace → ℕ
@@ -18,6 +19,7 @@ abbrev mutual
   pub outer_of_sum : SumPlace → List ℕ
   outer_of_sum (OnTheRight left) = []
   outer_of_sum (InBrackets place) = outer_of place ++ (minuses_of place ∷ [])
+  outer_of_sum (InSum place var) = outer_of place ++ (minuses_of place ∷ [])
 
   pub outer_of_product : ProductPlace → List ℕ
   outer_of_product (First place) = outer_of_sum place
@@ -39,6 +41,10 @@ abbrev pub at_side : Stand → Stand → Side → Position
 at_side left right Left = on_the_left left
 at_side left right (Right place) = at_place right place
 
+-- behind the bracket of a nested sum
+abbrev pub at_bound : Stand → FactorPlace → Position
+at_bound at place = record { stand = at; levels = levels place + 1; minuses = 0; outer = outer_of place ++ (minuses_of place ∷ []) }
+
 abbrev pub show : State → Position
 show Start = on_the_left stand.Nothing
 show (Named side name) = at_side stand.LeftName stand.Name side
@@ -46,6 +52,9 @@ show (WantsVariable side name vars) = at_side stand.LeftOpen stand.Open side
 show (BehindVariable side name vars var) = at_side stand.LeftVariable stand.Variable side
 show (BehindLeft access) = on_the_left stand.LeftAccess
 show (WantsFactor place) = at_place stand.Operator place
+show (NamedSum place) = at_place stand.SumName place
+show (WantsBound place) = at_bound stand.SumOpen place
+show (BehindBound place var) = at_bound stand.SumVariable place
 show (Behind place product) = record { stand = stand.Factor; levels = product_levels place; minuses = 0; outer = outer_of_product place }
 show (Ended tree) = on_the_left stand.End
 
@@ -56,8 +65,8 @@ finished r = record { stand = stand.Factor; levels = r.levels - r.minuses; minus
 abbrev pub with_stand : Stand → Position → Position
 with_stand at r = record { stand = at; levels = r.levels; minuses = r.minuses; outer = r.outer }
 
-abbrev pub in_bracket : Position → Position
-in_bracket r = record { stand = stand.Operator; levels = r.levels + 1; minuses = 0; outer = r.outer ++ (r.minuses ∷ []) }
+abbrev pub in_bracket : Stand → Position → Position
+in_bracket at r = record { stand = at; levels = r.levels + 1; minuses = 0; outer = r.outer ++ (r.minuses ∷ []) }
 
 abbrev pub behind_sign : Position → Position
 behind_sign r = record { stand = stand.Operator; levels = r.levels + 1; minuses = r.minuses + 1; outer = r.outer }

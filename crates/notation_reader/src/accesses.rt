@@ -4,7 +4,8 @@ ghost use Rattle.notation_reader.specs.Accesses.{Extends, Mentions};
 ghost use Rattle.index_notation.specs.declared.syntax.Name.{Name};
 
 use crate::position::Lead;
-use index_notation::{Name, Symbol, Token, WrittenAccess, copy_name};
+use index_notation::{Name, Token, WrittenAccess, copy_name};
+use notation_grammar::Symbol;
 use std::alloc::{AllocError, Global};
 use trees::Items;
 
@@ -20,7 +21,7 @@ fn extend_last(accesses: &mut Items<WrittenAccess>, var: Name) -> Result<(), All
     Ok(())
 }
 
-/// Keeps what a symbol says of the accesses: a name begins one, unless it is a variable of the last.
+/// Keeps what a symbol says of the accesses: a name begins one, unless it is a variable of the last, or a nested sum's.
 pub fn mention(
     alloc: Global,
     accesses: &mut Items<WrittenAccess>,
@@ -32,10 +33,11 @@ pub fn mention(
     let Symbol::Lexeme(Token::Name(name)) = symbol else {
         return Ok(());
     };
-    let name = copy_name(alloc, name)?;
     match lead {
-        Lead::Variable(_) => extend_last(accesses, name),
+        Lead::Sum | Lead::Bound => Ok(()),
+        Lead::Variable(_) => extend_last(accesses, copy_name(alloc, name)?),
         _ => {
+            let name = copy_name(alloc, name)?;
             let vars = Items::new(alloc);
             accesses.push(WrittenAccess { name, vars })?;
             Ok(())

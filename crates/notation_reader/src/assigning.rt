@@ -1,9 +1,10 @@
 //! What the mark behind the left side says.
 ghost use Rattle.std.specs.Prelude.{◌≡◌};
-ghost use Rattle.index_notation.specs.Faults.{symbols_of};
+ghost use Rattle.notation_grammar.specs.Faults.{symbols_of};
 ghost use Rattle.notation_reader.specs.Assigning.{assigns as assigns_by, accumulates as accumulates_by};
 
-use index_notation::{Mark, PlacedSymbol, Symbol, Token};
+use index_notation::{Mark, Token};
+use notation_grammar::{PlacedSymbol, Symbol};
 
 /// Whether a symbol adds to the old tensor, if it is the mark.
 fn assigns(symbol: &Symbol) -> Option<bool>

@@ -5,12 +5,13 @@ ghost use Rattle.notation_reader.specs.Counting.{level_fault as due_level_fault}
 use crate::literals::is_past_literals;
 use crate::names::add_name;
 use crate::position::Lead;
-use index_notation::{Counted, Name, Symbol, SymbolFault, Token};
+use index_notation::{Name, Token};
+use notation_grammar::{Counted, Symbol, SymbolFault};
 use std::alloc::{AllocError, Global};
 use trees::Items;
 
-/// What has been read that is limited: the variables of the access that is read, the different variables, the accesses
-/// of the right side, and these with the numbers.
+/// What has been read that is limited: the variables of the access that is read, the different variables in text order,
+/// the accesses of the right side, and these with the numbers.
 #[derive(Debug, Drop)]
 pub struct Counts {
     pub order: u64,
@@ -32,8 +33,8 @@ fn level_fault(levels: u64) -> Option<SymbolFault>
 
 impl Counts {
     ghost use Rattle.std.specs.Prelude.{◌≡◌, [], IfOk};
-    ghost use Rattle.notation_reader.specs.Counting.{CountsAs, CountsSymbol, variable_fault, with_variable};
-    ghost use Rattle.notation_reader.specs.Counting.{access_fault, with_access, number_fault, with_number};
+    ghost use Rattle.notation_reader.specs.Counting.{CountsAs, CountsSymbol, variable_fault, with_variable, bound_fault};
+    ghost use Rattle.notation_reader.specs.Counting.{with_bound, access_fault, with_access, number_fault, with_number};
 
     /// Nothing yet.
     pub fn new(alloc: Global) -> Counts
@@ -63,6 +64,17 @@ impl Counts {
             return Ok(Some(SymbolFault::TooMany(Counted::Variables)));
         }
         self.order += 1;
+        Ok(None)
+    }
+
+    /// Counts the variable of a nested sum.
+    fn count_bound(&mut self, alloc: Global, name: &Name) -> Result<Option<SymbolFault>, AllocError>
+        ensures { IfOk result (λ fault. CountsAs (bound_fault self.old name.now) (with_bound name.now self.old) fault self.new) }
+    {
+        add_name(alloc, &mut self.vars, name)?;
+        if self.vars.len() as u64 > limits::greatest_variables_of_statement() {
+            return Ok(Some(SymbolFault::TooMany(Counted::Variables)));
+        }
         Ok(None)
     }
 
@@ -107,10 +119,14 @@ impl Counts {
         ensures { IfOk result (λ fault. CountsSymbol self.old levels symbol.now lead fault self.new) }
     {
         match lead {
-            Lead::Bracket => Ok(level_fault(levels)),
+            Lead::Bracket(_) => Ok(level_fault(levels)),
             Lead::Minus => Ok(level_fault(levels)),
             Lead::Variable(_) => match symbol {
                 Symbol::Lexeme(Token::Name(name)) => self.count_variable(alloc, name),
+                _ => Ok(None),
+            },
+            Lead::Bound => match symbol {
+                Symbol::Lexeme(Token::Name(name)) => self.count_bound(alloc, name),
                 _ => Ok(None),
             },
             Lead::Name => Ok(self.count_access()),

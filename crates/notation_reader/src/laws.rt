@@ -1,8 +1,8 @@
 //! The claim that a text has one answer, as a call whose contract is the claim. It does nothing.
 ghost use Rattle.std.specs.Prelude.{◌≡◌, ℕ, List};
 ghost use Rattle.index_notation.specs.declared.syntax.Statement.{Statement};
-ghost use Rattle.index_notation.specs.declared.fault.NotationFault.{NotationFault};
-ghost use Rattle.index_notation.specs.Notation.{IsNotationOf, IsFaultOf};
+ghost use Rattle.notation_grammar.specs.declared.fault.NotationFault.{NotationFault};
+ghost use Rattle.notation_grammar.specs.Notation.{IsNotationOf, IsFaultOf};
 
 /// Claim: a text has one answer: one statement at most, one fault at most, and never both.
 pub fn one_answer_a_text()

@@ -1,9 +1,10 @@
 // The numbers that may be written.
 ghost use Rattle.std.specs.Prelude.{◌≡◌, ◌<◌, ◌≤◌, nat_lt, MatchOption};
 ghost use Rattle.limits.specs.Limits.{greatest_literal};
-ghost use Rattle.index_notation.specs.Faults.{number_of, value_after};
+ghost use Rattle.notation_grammar.specs.Faults.{number_of, value_after};
 
-use index_notation::{Symbol, Token};
+use index_notation::Token;
+use notation_grammar::Symbol;
 
 /// The number that digits write. None where it is above those that may be written.
 fn value_of(digits: &[u8]) -> Option<u64>

@@ -1,13 +1,17 @@
-// The statement of accesses: their names, tensors and variables apart, are numbered by first appearance.
-ghost use Rattle.std.specs.Prelude.{◌≡◌, ◌∷◌, List, map, IfOk};
-ghost use Rattle.index_notation.specs.Numbering.{distinct, name_of, variables_of, numbered};
-ghost use Rattle.index_notation.specs.TreeStatement.{numbered_statement};
+// The statement of what was read: names, tensors and variables apart, are numbered by first appearance, and nested sums
+// behind the accesses.
+ghost use Rattle.std.specs.Prelude.{◌≡◌, ◌∷◌, List, length, map, IfOk};
+ghost use Rattle.index_notation.specs.Numbering.{distinct, name_of, numbered};
+ghost use Rattle.notation_grammar.specs.TreeStatement.{numbered_statement};
 ghost use Rattle.index_notation.specs.declared.token.WrittenAccess.{WrittenAccess};
+ghost use Rattle.notation_reader.specs.Sums.{rebased_number as rebased_number_by, rebased as rebased_by, numbered_sum};
 
-use crate::names::{add_name, add_names, place};
-use index_notation::{Access, Expr, Name, Statement, WrittenAccess};
+use crate::builder::WrittenSum;
+use crate::names::{add_name, place};
+use crate::reader::Reading;
+use index_notation::{Access, Expr, Name, NestedSum, Statement, WrittenAccess, binary};
 use std::alloc::{AllocError, Global};
-use trees::Items;
+use trees::{Boxed, Items};
 
 /// The names of tensors, in order of first appearance.
 fn tensor_names(alloc: Global, accesses: &[WrittenAccess]) -> Result<Items<Name>, AllocError>
@@ -16,17 +20,6 @@ fn tensor_names(alloc: Global, accesses: &[WrittenAccess]) -> Result<Items<Name>
     let mut names = Items::new(alloc);
     for access in accesses {
         add_name(alloc, &mut names, &access.name)?;
-    }
-    Ok(names)
-}
-
-/// The names of variables, in order of first appearance.
-fn variable_names(alloc: Global, accesses: &[WrittenAccess]) -> Result<Items<Name>, AllocError>
-    ensures { IfOk result (λ names. names ≡ distinct (variables_of accesses.now)) }
-{
-    let mut names = Items::new(alloc);
-    for access in accesses {
-        add_names(alloc, &mut names, access.vars.as_slice())?;
     }
     Ok(names)
 }
@@ -66,25 +59,81 @@ fn number_accesses(
     Ok(found)
 }
 
-/// The statement of accesses, the left one first, and the right side's expression, which may be added to the old tensor. No nested
-/// sum stands in it.
+/// The number of an access or a nested sum, where there are so many accesses.
+fn rebased_number(number: usize, count: usize) -> usize
+    ensures { result ≡ rebased_number_by count number }
+{
+    let first_sum = limits::greatest_accesses_of_statement() as usize;
+    if number < first_sum {
+        number
+    } else {
+        number - first_sum.saturating_sub(count)
+    }
+}
+
+/// An expression whose nested sums have the numbers behind those of so many accesses.
+fn rebased(alloc: Global, expr: &Expr, count: usize) -> Result<Expr, AllocError>
+    ensures { IfOk result (λ found. found ≡ rebased_by count expr.now) }
+{
+    match expr {
+        Expr::Num(n) => Ok(Expr::Num(*n)),
+        Expr::Access(n) => Ok(Expr::Access(rebased_number(*n, count))),
+        Expr::Binary(operator, first, second) => {
+            let first = rebased(alloc, first.get(), count)?;
+            let second = rebased(alloc, second.get(), count)?;
+            binary(alloc, *operator, first, second)
+        }
+        Expr::Neg(inner) => {
+            let inner = rebased(alloc, inner.get(), count)?;
+            Ok(Expr::Neg(Boxed::new(alloc, inner)?))
+        }
+    }
+}
+
+/// Nested sums by the numbers of their variables, behind so many accesses.
+fn number_sums(
+    alloc: Global,
+    vars: &[Name],
+    count: usize,
+    sums: &[WrittenSum],
+) -> Result<Items<NestedSum>, AllocError>
+    ensures { IfOk result (λ found. found ≡ map (numbered_sum vars.now count) sums.now) }
+{
+    let mut found = Items::new(alloc);
+    for sum in sums {
+        let inside = rebased(alloc, &sum.inside, count)?;
+        found.push(NestedSum {
+            var: place(vars, &sum.var),
+            inside,
+        })?;
+    }
+    Ok(found)
+}
+
+/// The statement of what was read, whose right side may be added to the old tensor.
 pub fn number_statement(
     alloc: Global,
-    accesses: &[WrittenAccess],
+    reading: Reading,
     accumulate: bool,
-    expr: Expr,
 ) -> Result<Statement, AllocError>
-    requires { (left : WrittenAccess) × (right : List WrittenAccess) × (accesses.now ≡ left ∷ right) }
-    ensures { IfOk result (λ s. (left : WrittenAccess) (right : List WrittenAccess) → accesses.now ≡ left ∷ right →
-        s ≡ numbered_statement left accumulate right expr) }
+    requires { (left : WrittenAccess) × (right : List WrittenAccess) × (reading.accesses ≡ left ∷ right) }
+    ensures { IfOk result (λ s. (left : WrittenAccess) (right : List WrittenAccess) → reading.accesses ≡ left ∷ right →
+        s ≡ numbered_statement left accumulate reading.vars right
+        (map (numbered_sum reading.vars (length right)) reading.sums) (rebased_by (length right) reading.expr)) }
 {
-    let tensors = tensor_names(alloc, accesses)?;
-    let vars = variable_names(alloc, accesses)?;
-    let Some((left, right)) = accesses.split_first() else {
+    let Reading {
+        accesses,
+        vars,
+        sums,
+        expr,
+    } = reading;
+    let tensors = tensor_names(alloc, accesses.as_slice())?;
+    let Some((left, right)) = accesses.as_slice().split_first() else {
         unreachable!()
     };
     let left = number_access(alloc, tensors.as_slice(), vars.as_slice(), left)?;
-    let accesses = number_accesses(alloc, tensors.as_slice(), vars.as_slice(), right)?;
-    let sums = Items::new(alloc);
-    Ok(Statement::new(tensors, vars, left, accumulate, accesses, sums, expr))
+    let numbered = number_accesses(alloc, tensors.as_slice(), vars.as_slice(), right)?;
+    let sums = number_sums(alloc, vars.as_slice(), right.len(), sums.as_slice())?;
+    let expr = rebased(alloc, &expr, right.len())?;
+    Ok(Statement::new(tensors, vars, left, accumulate, numbered, sums, expr))
 }

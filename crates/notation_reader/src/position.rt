@@ -1,8 +1,11 @@
 // Where a reader stands in the grammar, and where each symbol leads.
 ghost use Rattle.std.specs.Prelude.{◌≡◌};
-ghost use Rattle.notation_reader.specs.Leads.{lead_of, mark_leads};
+ghost use Rattle.notation_grammar.specs.Grammar.{is_sum as is_sum_name};
+ghost use Rattle.notation_reader.specs.Leads.{lead_of, mark_leads, name_token_leads};
 
-use index_notation::{Mark, Symbol, Token};
+use crate::names::is_sum;
+use index_notation::{Mark, Name, Token};
+use notation_grammar::Symbol;
 use std::alloc::{AllocError, Global};
 use trees::Items;
 
@@ -18,7 +21,7 @@ pub enum Stand {
     LeftVariable,
     /// The whole left access.
     LeftAccess,
-    /// `=` or `+=`, an operator, a prefix minus or an open bracket, so a factor is wanted.
+    /// `=` or `+=`, an operator, a prefix minus, an open bracket or the comma of a nested sum, so a factor is wanted.
     Operator,
     /// The name of an access of the right side.
     Name,
@@ -26,6 +29,12 @@ pub enum Stand {
     Open,
     /// A variable of an access of the right side.
     Variable,
+    /// The name `sum`, so the bracket of a nested sum is wanted.
+    SumName,
+    /// The bracket of a nested sum, so its variable is wanted.
+    SumOpen,
+    /// The variable of a nested sum, so a comma is wanted.
+    SumVariable,
     /// A whole factor.
     Factor,
     /// The end of the text.
@@ -45,8 +54,12 @@ pub enum Lead {
     Number,
     /// It names an access of the right side.
     Name,
-    /// It opens a bracket of a factor.
-    Bracket,
+    /// It is the name `sum`, which begins a nested sum.
+    Sum,
+    /// It is the variable of a nested sum.
+    Bound,
+    /// It opens a bracket of a factor or of a nested sum, and leads there.
+    Bracket(Stand),
     /// It is a prefix minus.
     Minus,
     /// It is an operator behind a factor.
@@ -89,7 +102,7 @@ fn lead_of_mark(stand: Stand, mark: Mark) -> Lead
             _ => Lead::Nowhere,
         },
         Stand::Operator => match mark {
-            Mark::Open => Lead::Bracket,
+            Mark::Open => Lead::Bracket(Stand::Operator),
             Mark::Minus => Lead::Minus,
             _ => Lead::Nowhere,
         },
@@ -113,6 +126,34 @@ fn lead_of_mark(stand: Stand, mark: Mark) -> Lead
             Mark::Close => Lead::Close,
             _ => Lead::Nowhere,
         },
+        Stand::SumName => match mark {
+            Mark::Open => Lead::Bracket(Stand::SumOpen),
+            _ => Lead::Nowhere,
+        },
+        Stand::SumVariable => match mark {
+            Mark::Comma => Lead::To(Stand::Operator),
+            _ => Lead::Nowhere,
+        },
+        _ => Lead::Nowhere,
+    }
+}
+
+/// What a name does at a stand.
+fn lead_of_name(stand: Stand, name: &Name) -> Lead
+    ensures { result ≡ name_token_leads stand (is_sum_name name.now) }
+{
+    match stand {
+        Stand::Nothing => {
+            if is_sum(name) {
+                Lead::Nowhere
+            } else {
+                Lead::To(Stand::LeftName)
+            }
+        }
+        Stand::LeftOpen => Lead::Variable(Stand::LeftVariable),
+        Stand::Operator => { if is_sum(name) { Lead::Sum } else { Lead::Name } }
+        Stand::Open => Lead::Variable(Stand::Variable),
+        Stand::SumOpen => Lead::Bound,
         _ => Lead::Nowhere,
     }
 }
@@ -122,13 +163,7 @@ pub fn lead_at(stand: Stand, symbol: &Symbol) -> Lead
     ensures { result ≡ lead_of stand symbol.now }
 {
     match symbol {
-        Symbol::Lexeme(Token::Name(_)) => match stand {
-            Stand::Nothing => Lead::To(Stand::LeftName),
-            Stand::LeftOpen => Lead::Variable(Stand::LeftVariable),
-            Stand::Operator => Lead::Name,
-            Stand::Open => Lead::Variable(Stand::Variable),
-            _ => Lead::Nowhere,
-        },
+        Symbol::Lexeme(Token::Name(name)) => lead_of_name(stand, name),
         Symbol::Lexeme(Token::Number(_)) => match stand {
             Stand::Operator => Lead::Number,
             _ => Lead::Nowhere,
@@ -184,11 +219,13 @@ impl Position {
             Lead::Variable(stand) => self.stand = stand,
             Lead::Number => self.finish(),
             Lead::Name => self.stand = Stand::Name,
-            Lead::Bracket => {
+            Lead::Sum => self.stand = Stand::SumName,
+            Lead::Bound => self.stand = Stand::SumVariable,
+            Lead::Bracket(stand) => {
                 self.outer.push(self.minuses)?;
                 self.levels += 1;
                 self.minuses = 0;
-                self.stand = Stand::Operator;
+                self.stand = stand;
             }
             Lead::Minus => {
                 self.levels += 1;

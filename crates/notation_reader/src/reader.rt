@@ -1,8 +1,8 @@
 // Symbols read one after another, or the fault of the first that is faulty.
 ghost use Rattle.std.specs.Prelude.{◌≡◌, ◌≤◌, ◌<◌, ◌+◌, ◌^◌, None, IfOk, OnOk, MatchResult};
-ghost use Rattle.limits.specs.Limits.{greatest_literal};
-ghost use Rattle.index_notation.specs.Grammar.{Tree};
-ghost use Rattle.index_notation.specs.Faults.{number_of, symbols_of, IsTreeOf, IsFirstFault};
+ghost use Rattle.limits.specs.Limits.{greatest_accesses, greatest_literal};
+ghost use Rattle.notation_grammar.specs.Grammar.{Tree};
+ghost use Rattle.notation_grammar.specs.Faults.{number_of, symbols_of, IsTreeOf, IsFirstFault};
 ghost use Rattle.notation_reader.specs.Machine.{State};
 ghost use Rattle.notation_reader.specs.Shown.{show};
 ghost use Rattle.notation_reader.specs.Leads.{lead_of};
@@ -12,10 +12,11 @@ ghost use Rattle.notation_reader.specs.Reading.{Shows, IsTakenBy, IsReadingOf};
 ghost use Rattle.notation_reader.specs.declared.position.Lead.TheVariants as lead_is;
 
 use crate::accesses::mention;
-use crate::builder::Builder;
+use crate::builder::{Builder, WrittenSum};
 use crate::counts::Counts;
 use crate::position::{Position, lead_at};
-use index_notation::{Expr, PlacedSymbol, Symbol, SymbolFault, WrittenAccess};
+use index_notation::{Expr, Name, WrittenAccess};
+use notation_grammar::{PlacedSymbol, Symbol, SymbolFault};
 use std::alloc::{AllocError, Global};
 use trees::Items;
 
@@ -29,10 +30,13 @@ pub struct Reader {
     pub builder: Builder,
 }
 
-/// A statement that has been read: the accesses in text order, the left one first, and the expression of the right side.
+/// A statement that has been read: the accesses in text order, the left one first, the names of variables by first
+/// appearance, the nested sums in the order in which they end, and the expression of the right side.
 #[derive(Debug, Drop)]
 pub struct Reading {
     pub accesses: Items<WrittenAccess>,
+    pub vars: Items<Name>,
+    pub sums: Items<WrittenSum>,
     pub expr: Expr,
 }
 
@@ -73,6 +77,7 @@ impl Reader {
         ensures levels { result.position.levels ≡ 0 }
         ensures minuses { result.position.minuses ≡ 0 }
         ensures reads { result.builder.reads ≡ 0 }
+        ensures ends { result.builder.ends ≡ greatest_accesses }
         ensures built_minuses { result.builder.frame.minuses ≡ 0 }
     {
         Reader {
@@ -88,12 +93,14 @@ impl Reader {
         requires levels { self.position.levels < 2 ^ 63 }
         requires minuses { self.position.minuses < 2 ^ 63 }
         requires reads { self.builder.reads < 2 ^ 63 }
+        requires ends { self.builder.ends < 2 ^ 63 + greatest_accesses }
         requires built_minuses { self.builder.frame.minuses < 2 ^ 63 }
         ensures taken { IfOk result (λ answer. (s : State) → Shows s self →
             MatchResult answer (IsTakenBy s symbol.now) (IsRefused s symbol.now)) }
         ensures levels { IfOk result (λ answer. IfOk answer (λ r. r.position.levels ≤ self.position.levels + 1)) }
         ensures minuses { IfOk result (λ answer. IfOk answer (λ r. r.position.minuses ≤ self.position.minuses + 1)) }
         ensures reads { IfOk result (λ answer. IfOk answer (λ r. r.builder.reads ≤ self.builder.reads + 1)) }
+        ensures ends { IfOk result (λ answer. IfOk answer (λ r. r.builder.ends ≤ self.builder.ends + 1)) }
     {
         let Reader {
             mut position,
@@ -135,13 +142,20 @@ pub fn read(
         }
     }
     let Reader {
+        counts,
         accesses,
         builder,
         ..
     } = reader;
-    let Builder { result, .. } = builder;
+    let Counts { vars, .. } = counts;
+    let Builder { sums, result, .. } = builder;
     match result {
-        Some(expr) => Ok(Ok(Reading { accesses, expr })),
+        Some(expr) => Ok(Ok(Reading {
+            accesses,
+            vars,
+            sums,
+            expr,
+        })),
         None => unreachable!(),
     }
 }

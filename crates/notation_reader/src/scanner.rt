@@ -4,10 +4,11 @@ ghost use Rattle.std.specs.Char.{is_ascii_digit};
 ghost use Rattle.index_notation.specs.Tokens.{goes_on, behind_blanks, bytes_of, plus_before as plus_mark, mark_at, EachPasses, StopsAt};
 ghost use Rattle.index_notation.specs.Tokens.{IsNext};
 ghost use Rattle.lists.specs.Blanks.{is_blank};
-ghost use Rattle.index_notation.specs.Symbols.{AreSymbols};
+ghost use Rattle.notation_grammar.specs.Symbols.{AreSymbols};
 ghost use Rattle.index_notation.specs.declared.token.Token.{Token};
 
-use index_notation::{Mark, Name, PlacedSymbol, Symbol, Token};
+use index_notation::{Mark, Name, Token};
+use notation_grammar::{PlacedSymbol, Symbol};
 use std::alloc::{AllocError, Global};
 use trees::Items;
 

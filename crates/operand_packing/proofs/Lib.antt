@@ -5,7 +5,6 @@ pub mod FilesReadable
 pub mod FormatsBound
 pub mod Inside
 pub mod Lists
-pub mod NamesRead
 pub mod RangesAbove
 pub mod RangesSmall
 pub mod Ready

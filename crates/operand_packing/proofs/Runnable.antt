@@ -27,13 +27,12 @@ use Rattle.operand_files.specs.Decoded.{Operand, IsReadable, AreReadable}
 use Rattle.operand_files.specs.Decoded as decoded
 use Rattle.operand_files.specs.Reads.{Given, paths_of, HaveRead}
 use Rattle.operand_files.specs.Reads as reads
-use Rattle.operand_packing.specs.Operands.{limit_of, operand_of, HasOrder, ReadsOperand, IsBounded, ReadsBounded, AreBounded}
+use Rattle.operand_packing.specs.Operands.{limit_of, operand_of, HasOrder, ReadsOperand, IsBounded, ReadsBounded, AreBounded, IsRead}
 use Rattle.operand_packing.proofs.RangesAbove.{ranges_long, bounded_below}
 use Rattle.operand_packing.specs.Orders.{operand_orders}
 use Rattle.operand_packing.specs.Runnable.{IsRunnable}
 use Rattle.operand_packing.proofs.FileEntries.{bound_in, IsKept, file_kept}
 use Rattle.operand_packing.proofs.FormatsBound.{formats_fit, order_is}
-use Rattle.operand_packing.proofs.NamesRead.{EachIsRead}
 use Rattle.operand_packing.proofs.RangesSmall.{ranges_small, given_small}
 
 -- ---- lists
@@ -192,6 +191,10 @@ module _ (a : Arithmetic) (has_minus signed : Bool) (s : Statement) (old new : F
         (subst (λ modes. All (λ entry. IsBounded (bound_in modes) (length access.vars) entry.coords) there.operand.entries.list)
         (sym there.bounds_are)
         there.kept.bounded))
+
+-- each tensor but the result is read
+abbrev pub EachIsRead : Statement → Type 0
+EachIsRead s = (n : ℕ) → n + 1 < length s.tensors → IsRead s.accesses (n + 1)
 
 -- a statement each of whose tensors but the result is read, over the operands that were read for it
 pub read_is_runnable : (a : Arithmetic) (has_minus signed : Bool) (s : Statement) → IsNumberedWithSums s → IsWellNamed s → EachIsRead s

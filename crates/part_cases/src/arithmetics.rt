@@ -134,6 +134,9 @@ fn tell_values<S: Semiring>(
     at: Option<(&[u64], &[u64])>,
 ) -> Option<()> {
     let statement = parse(answer.alloc(), text.trim()).ok()?;
+    if !statement.sums.is_empty() {
+        return None;
+    }
     let operands = operands_of(answer, &statement, entries)?;
     let operands = operands.as_slice();
     answer.tell(S::name());

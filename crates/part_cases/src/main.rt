@@ -59,7 +59,7 @@
 //!
 //! Entries are parted by `;`, each its coordinates, counted from 0, and its value. The ranges are those of the variables in the order in
 //! which they first stand, and the entries behind a statement those of its accesses' tensors in the same order: each access is to a tensor
-//! of its own.
+//! of its own. No nested sum stands in the statement of a value.
 //!
 //! Statements, formats and graphs:
 //!
@@ -80,8 +80,9 @@
 //!                                  numbers of tensor and variables, the left one first.
 //! ```
 //!
-//! Variables are told by their numbers in standing order, from 0, and accesses of the right side by theirs behind `#`. In the text of a
-//! statement `\t` is a tab, `\\` a backslash, and `{33 -}` stands for 33 minuses.
+//! Variables are told by their numbers in standing order, from 0, and accesses of the right side by theirs behind `#`, with nested sums
+//! numbered behind them; of a statement each of these is told behind its expression. In the text of a statement `\t` is a tab, `\\` a
+//! backslash, and `{33 -}` stands for 33 minuses.
 #![tactic(auto)]
 
 mod arithmetics;

@@ -12,7 +12,8 @@ use crate::segments::{tell_segments, tell_twin};
 use crate::statements::{tell_expanded, tell_groups, tell_named, tell_statement};
 use crate::{copies, files, streams, tokens};
 use case_files::{Answer, Cases, keyword_of};
-use index_notation::{NotationFault, Statement};
+use index_notation::Statement;
+use notation_grammar::NotationFault;
 use notation_reader::parse;
 use std::rt::Files;
 

@@ -55,7 +55,8 @@ fn tell_access(answer: &mut Answer, access: &Access) -> Option<()> {
     Some(())
 }
 
-/// The tensors, the variables, the left access, those of the right side, and the expression, all by way of copies.
+/// The tensors, the variables, the left access, those of the right side, and the expression, all by way of copies; behind it the nested
+/// sums, each with its variable and its inside.
 pub(crate) fn tell_statement(answer: &mut Answer, statement: &Statement) -> Option<()> {
     tell_names(answer, statement.tensors.as_slice())?;
     tell_names(answer, statement.vars.as_slice())?;
@@ -69,6 +70,12 @@ pub(crate) fn tell_statement(answer: &mut Answer, statement: &Statement) -> Opti
     let expr = copy_expr(answer.alloc(), &statement.expr);
     let expr = answer.made(expr)?;
     tell_expr(answer, &expr);
+    for sum in statement.sums.as_slice() {
+        answer.tell("; sum ");
+        answer.show(&sum.var);
+        answer.tell(" ");
+        tell_expr(answer, &sum.inside);
+    }
     Some(())
 }
 

@@ -5,14 +5,14 @@ use Rattle.limits.specs.Limits.{greatest_order, greatest_variables, greatest_acc
 use Rattle.limits.specs.Limits.{greatest_literal, greatest_text_bytes, greatest_range_word, greatest_file_bytes}
 use Rattle.index_notation.specs.declared.syntax.Name.{Name}
 use Rattle.index_notation.specs.declared.syntax.Statement.{Statement}
-use Rattle.index_notation.specs.declared.fault.Counted.{Counted}
-use Rattle.index_notation.specs.declared.fault.Counted.TheVariants.{Order, Variables, Accesses, Operands}
-use Rattle.index_notation.specs.declared.fault.NotationFault.{NotationFault}
-use Rattle.index_notation.specs.declared.fault.NotationFault.TheVariants as notation
+use Rattle.notation_grammar.specs.declared.fault.Counted.{Counted}
+use Rattle.notation_grammar.specs.declared.fault.Counted.TheVariants.{Order, Variables, Accesses, Operands}
+use Rattle.notation_grammar.specs.declared.fault.NotationFault.{NotationFault}
+use Rattle.notation_grammar.specs.declared.fault.NotationFault.TheVariants as notation
 use Rattle.format_spec.specs.declared.fault.FormatFault.{FormatFault}
 use Rattle.format_spec.specs.declared.fault.FormatFault.TheVariants.{BadLetter, BadLength, BadOrder, BadChain, BelowHashed}
 use Rattle.expr_terms.specs.declared.names.NameFault.{NameFault}
-use Rattle.expr_terms.specs.declared.names.NameFault.TheVariants.{ResultRead, Arity, RepeatedVariable}
+use Rattle.expr_terms.specs.declared.names.NameFault.TheVariants.{ResultRead, Arity, RepeatedVariable, BadSum}
 use Rattle.expr_terms.specs.declared.range_fault.RangeFault.{RangeFault}
 use Rattle.expr_terms.specs.declared.range_fault.RangeFault.TheVariants as range
 use Rattle.bindings.specs.Names.{name_at}
@@ -118,6 +118,7 @@ name_line s (ResultRead tensor) = of_name (name_at s.tensors tensor) (codes ": t
 name_line s (Arity tensor) = of_name (name_at s.tensors tensor) (codes ": accesses of different order\n" ∷ [])
 name_line s (RepeatedVariable tensor var) =
     of_name (name_at s.tensors tensor) (codes ": variable " ∷ name_at s.vars var ∷ codes " stands twice\n" ∷ [])
+name_line s (BadSum var) = of_variable (name_at s.vars var) (codes ": bound and free\n" ∷ [])
 
 -- the line of a word that is refused
 abbrev pub word_line : ℕ → WordFault → List ℕ

@@ -5,7 +5,8 @@ ghost use Rattle.refusals.specs.declared.fault.Fault.TheVariants.{Memory};
 
 use bindings::{BindingFault, WordFault};
 use expr_terms::{NameFault, RangeFault};
-use index_notation::{NotationFault, Statement};
+use index_notation::Statement;
+use notation_grammar::NotationFault;
 use operand_packing::LargeLevel;
 use std::alloc::AllocError;
 use text_lines::LineKind;

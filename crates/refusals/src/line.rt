@@ -4,7 +4,7 @@ ghost use Rattle.outside.specs.Sink.{Appends};
 ghost use Rattle.text_lines.specs.Puts.{AppendsPart};
 ghost use Rattle.bindings.specs.Names.{name_at};
 ghost use Rattle.bindings.specs.declared.fault.WordFault.TheVariants.{RangeLimit};
-ghost use Rattle.index_notation.specs.declared.fault.NotationFault.TheVariants as notation;
+ghost use Rattle.notation_grammar.specs.declared.fault.NotationFault.TheVariants as notation;
 ghost use Rattle.refusals.specs.Lines.{of_word, of_name, limit_at, too_many_at, notation_line, name_line, word_line, bad_format_text};
 ghost use Rattle.refusals.specs.Lines.{binding_line, no_range_text, conflict_text, above_text, range_line, size_text, workspace_text};
 ghost use Rattle.refusals.specs.Lines.{names_behind, cycle_text, named_line, no_minus_text, kind_text, file_bytes_text};
@@ -16,12 +16,13 @@ use crate::fault::{Fault, KernelFault, NamedFault};
 use bindings::{BindingFault, WordFault, name_at};
 use expr_terms::{NameFault, RangeFault};
 use format_spec::FormatFault;
-use index_notation::{Counted, Name, NotationFault, Statement};
+use index_notation::{Name, Statement};
 use limits::{
     greatest_accesses_of_statement, greatest_bytes_of_file, greatest_bytes_of_text,
     greatest_literal_of_expression, greatest_nesting_of_expression, greatest_operands_of_statement,
     greatest_order_of_tensor, greatest_range_in_word, greatest_variables_of_statement,
 };
+use notation_grammar::{Counted, NotationFault};
 use outside::{Refusal, Sink};
 use text_lines::{LineKind, Piece, put_all, put_pieces};
 
@@ -301,6 +302,14 @@ fn put_name_line<S: Sink>(
                 Piece::Text(b": variable "),
                 Piece::Text(name_at(statement.vars.as_slice(), var)),
                 Piece::Text(b" stands twice\n"),
+            ];
+            put_pieces(sink, &pieces)
+        }
+        NameFault::BadSum { var } => {
+            let pieces = [
+                Piece::Text(b"taco: variable "),
+                Piece::Text(name_at(statement.vars.as_slice(), var)),
+                Piece::Text(b": bound and free\n"),
             ];
             put_pieces(sink, &pieces)
         }

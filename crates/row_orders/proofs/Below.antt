@@ -20,9 +20,9 @@ use Rattle.concrete_notation.specs.Contributions.{rows_below}
 use Rattle.concrete_notation.specs.Nests.{Nest, inside, nests, nest_of, IsOrderOf}
 use Rattle.concrete_notation.proofs.Around.{loops_contain}
 use Rattle.concrete_notation.proofs.Points.{all_below, or_first}
-use Rattle.loop_code.specs.declared.loops.LoopCode.{LoopCode, Add, Both', Loop', Row_of-LoopCode, end_of-LoopCode, more_of-LoopCode}
+use Rattle.loop_code.specs.declared.loops.LoopCode.{LoopCode, Add, Both', Loop', Sum', Row_of-LoopCode, end_of-LoopCode, more_of-LoopCode}
 use Rattle.loop_code.specs.declared.loops.Seek.{Seek}
-use Rattle.loop_code.specs.Loops.{Layout, Stored, Env, start, moved, term_value, row_of, contributions, contributions_in}
+use Rattle.loop_code.specs.Loops.{Layout, Stored, Env, at_cursor, start, moved, term_value, row_of, sum_of, contributions, contributions_in}
 use Rattle.lowering.specs.Layouts.{layout_of}
 use Rattle.lowering.specs.Lowered.{concrete_of, concrete_in}
 use Rattle.row_orders.specs.Orders.{RowsAreBelow}
@@ -104,6 +104,8 @@ module _ (a : Arithmetic) (layout : Layout) (stored : Stored) (ranges : ℕ → 
         (all_rows_below_in f env (reaches_first (nests (concrete_in f)) (nests (concrete_in g)) env.point h))
         (all_rows_below_in g env (reaches_second (nests (concrete_in f)) (nests (concrete_in g)) env.point h))
     all_rows_below (Add t) env h = one_below env.point t (term_value a stored env t) h
+    all_rows_below (Sum' k p inside q body) env h =
+        all_rows_below_in body (at_cursor env k (sum_of a (contributions_in a layout stored ranges [] inside env))) h
 
     all_rows_below_in : {m : _} (row : Row_of-LoopCode m) (env : Env) → Reaches env.point (nests (concrete_in row))
         → Each IsBelow (contributions_in a layout stored ranges target row env)

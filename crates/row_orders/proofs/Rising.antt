@@ -18,10 +18,10 @@ use Rattle.concrete_notation.specs.declared.concrete.Concrete.TheBlock.{hidden-t
 use Rattle.concrete_notation.specs.Contributions.{rows_below}
 use Rattle.concrete_notation.specs.Nests.{Nest, inside, nests, next_loops, SharesLoops}
 use Rattle.concrete_notation.proofs.Points.{contains_both, map_long, neither, or_first, or_second}
-use Rattle.loop_code.specs.declared.loops.LoopCode.{LoopCode, Add, Both', Loop', Row_of-LoopCode, end_of-LoopCode, more_of-LoopCode}
+use Rattle.loop_code.specs.declared.loops.LoopCode.{LoopCode, Add, Both', Loop', Sum', Row_of-LoopCode, end_of-LoopCode, more_of-LoopCode}
 use Rattle.loop_code.specs.declared.loops.Seek.{Seek}
 use Rattle.loop_code.specs.Loops.{Layout, Stored, Env, at_variable, at_cursor, sought, found, moved}
-use Rattle.loop_code.specs.Loops.{term_value, row_of, contributions, contributions_in}
+use Rattle.loop_code.specs.Loops.{term_value, row_of, sum_of, contributions, contributions_in}
 use Rattle.loop_code.proofs.Parts.{rows_same}
 use Rattle.lowering.specs.Lowered.{concrete_of, concrete_in}
 use Rattle.row_orders.proofs.Blocks.{with_first, blocks_rise, none_falls}
@@ -46,6 +46,7 @@ mutual
   common P (Loop' w seeks p body) h = common_in P body (each_unmapped (λ (n : Nest). P) (inside w) (nests (concrete_in body)) h)
   common P (Both' p f q g) h = common_in P f (each_parts (λ (n : Nest). P) (nests (concrete_in f)) (nests (concrete_in g)) h).0
   common P (Add t) h = h.0
+  common P (Sum' k p inside q body) h = common_in P body h
 
   common_in : {m : _} (P : Type 0) (row : Row_of-LoopCode m) → Each (λ (n : Nest). P) (nests (concrete_in row)) → P
   common_in P end_of-LoopCode h = h.0
@@ -74,6 +75,7 @@ mutual
       contains_both (next_loops (concrete_in f)) (next_loops (concrete_in g)) v
       ∙ or_first (contains (next_loops (concrete_in f)) v) (contains (next_loops (concrete_in g)) v) (stands_next_in v front f parts.0)
   stands_next v front (Add t) h = absurd h.0.starts
+  stands_next v front (Sum' k p inside q body) h = stands_next_in v front body h
 
   stands_next_in : {m : _} (v : ℕ) (front : List ℕ) (row : Row_of-LoopCode m) → Each (IsLed (v ∷ front)) (nests (concrete_in row))
       → contains (next_loops (concrete_in row)) v ≡ true
@@ -128,6 +130,10 @@ module _ (a : Arithmetic) (layout : Layout) (stored : Stored) (ranges : ℕ → 
       → (moved layout stored w seeks env x).point ≡ with_coordinate env.point w x
   moved_point w seeks env x = found_point seeks (at_variable env w x)
 
+  -- where the rows of some loops are summed for an access
+  abbrev with_sum : {m : _} → ℕ → Row_of-LoopCode m → Env → Env
+  with_sum k inside env = at_cursor env k (sum_of a (contributions_in a layout stored ranges [] inside env))
+
   -- rows to other variables, which are told by the first ones' coordinates
   module _ (target others : List ℕ) (key : List ℕ → List ℕ)
       (told : (point : ℕ → ℕ) → key (coords_at point target) ≡ coords_at point others) where
@@ -147,6 +153,7 @@ module _ (a : Arithmetic) (layout : Layout) (stored : Stored) (ranges : ℕ → 
           ∙ ap (λ rows. contributions_in a layout stored ranges others f env ++ rows) (rows_reread_in g env)
       rows_reread (Add t) env =
           one_reread key (coords_at env.point target) (coords_at env.point others) (term_value a stored env t) (told env.point)
+      rows_reread (Sum' k p inside q body) env = rows_reread_in body (with_sum k inside env)
 
       rows_reread_in : {m : _} (row : Row_of-LoopCode m) (env : Env)
           → map (reread key) (contributions_in a layout stored ranges target row env)
@@ -170,6 +177,7 @@ module _ (a : Arithmetic) (layout : Layout) (stored : Stored) (ranges : ℕ → 
           (contributions_in a layout stored ranges target g env) (rows_long_in f env) (rows_long_in g env)
       rows_long (Add t) env = one_long (length target) (coords_at env.point target) (term_value a stored env t)
           (map_long env.point target)
+      rows_long (Sum' k p inside q body) env = rows_long_in body (with_sum k inside env)
 
       rows_long_in : {m : _} (row : Row_of-LoopCode m) (env : Env)
           → Each IsLong (contributions_in a layout stored ranges target row env)
@@ -215,6 +223,7 @@ module _ (a : Arithmetic) (layout : Layout) (stored : Stored) (ranges : ℕ → 
         ∙ sym (map-append (with_first (env.point v)) (contributions_in a layout stored ranges target f env)
         (contributions_in a layout stored ranges target g env))
     first_stays v target (Add t) env lacks = one_first (env.point v) (coords_at env.point target) (term_value a stored env t)
+    first_stays v target (Sum' k p inside q body) env lacks = first_stays_in v target body (with_sum k inside env) lacks
 
     first_stays_in : {m : _} (v : ℕ) (target : List ℕ) (row : Row_of-LoopCode m) (env : Env) → Lacks v (nests (concrete_in row))
         → contributions_in a layout stored ranges (v ∷ target) row env
@@ -267,6 +276,8 @@ module _ (a : Arithmetic) (layout : Layout) (stored : Stored) (ranges : ℕ → 
         absurd (twice v (next_loops (concrete_in f)) (next_loops (concrete_in g)) (stands_next_in v front f parts.0)
         (stands_next_in v front g parts.1) shared.0)
     rows_rise (v ∷ front) (Add t) env led shared = absurd led.0.starts
+    rows_rise (v ∷ front) (Sum' k p inside q body) env led shared =
+        rows_rise_in (v ∷ front) body (with_sum k inside env) led shared
 
     rows_rise_in : {m : _} (front : List ℕ) (row : Row_of-LoopCode m) (env : Env) → Each (IsLed front) (nests (concrete_in row))
         → SharesLoops (concrete_in row) → NeverFalls (contributions_in a layout stored ranges front row env)

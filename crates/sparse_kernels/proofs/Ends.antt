@@ -25,21 +25,21 @@ ends_weaker a order kernel arrays P Q weaker e =
 module _ (a : Arithmetic) (s : Statement) (store : Store) (letters : List Letter) (most : LoopKind → ℕ) where
   -- the state leaves the result, and few turns were made
   abbrev pub IsDone : State → Type 0
-  IsDone t = LeavesResult a s (told_by a store) store t.arrays × AreTurns s (told_by a store) letters most t.turns t.arrays
+  IsDone t = LeavesResult a s (told_by a s store) store t.arrays × AreTurns s (told_by a s store) letters most t.turns t.arrays
 
   -- the growth may be refused
   abbrev pub IsRightRefusal : Refusal
-  IsRightRefusal turns b count = IsRightOutcome a s (told_by a store) store (TooLong (place_of (length store.format) b) count)
+  IsRightRefusal turns b count = IsRightOutcome a s (told_by a s store) store (TooLong (place_of (length store.format) b) count)
 
   pub done_told : (o : KernelOutcome) → ToldOf (length store.format) IsDone IsRightRefusal o
-      → IsRightOutcome a s (told_by a store) store o × MakesTurns s (told_by a store) letters most o
+      → IsRightOutcome a s (told_by a s store) store o × MakesTurns s (told_by a s store) letters most o
   done_told (Finished arrays turns) h = (
-    subst (LeavesResult a s (told_by a store) store) h.2 h.1.0,
-    subst (λ arrays. AreTurns s (told_by a store) letters most turns arrays) h.2
-        (subst (λ made. AreTurns s (told_by a store) letters most made h.0.arrays) h.3 h.1.1),
+    subst (LeavesResult a s (told_by a s store) store) h.2 h.1.0,
+    subst (λ arrays. AreTurns s (told_by a s store) letters most turns arrays) h.2
+        (subst (λ made. AreTurns s (told_by a s store) letters most made h.0.arrays) h.3 h.1.1),
   )
   done_told (GotStuck statement) h = absurd h
   done_told (TooLong place count) h =
       let r = h.1 in
-      (subst (λ p. IsRightOutcome a s (told_by a store) store (TooLong p count)) r.2 r.1, tt)
+      (subst (λ p. IsRightOutcome a s (told_by a s store) store (TooLong p count)) r.2 r.1, tt)
   done_told NotFinished h = absurd h

@@ -40,7 +40,8 @@ pub left_long : (s : Statement) (formats : List (List FormatLevel)) → IsForSpa
     → length s.left.vars ≡ length store.format
 left_long s formats f store is = sym f.left.order ∙ ap (λ t. length (format_of formats t)) f.named.result ∙ ap length (sym is.format_is)
 
--- from rows that are those of the result, in workspace w, which has so many keys; so many turns were made before, and so many are made in all
+-- from rows that are those of the result, in workspace w, which has so many keys; so many turns were made before, and so many are made in
+-- all
 module _ (a : Arithmetic) (s : Statement) (formats : List (List FormatLevel)) (store : Store) (is : IsStoreOf s formats store)
     (sums : List Entry) (are_rows : AreRowsOfResult a s store sums) (left_many : length s.left.vars ≡ length store.format)
     (w keys g low : ℕ) (keys_are : keys ≡ length s.left.vars) (drain : List KStmt)
@@ -64,7 +65,7 @@ module _ (a : Arithmetic) (s : Statement) (formats : List (List FormatLevel)) (s
 
   module _ (within : (j : LoopKind) → same_kind Drain j ≡ false → made j ≤ most j)
       (drained : (u : State) → Stored u → u.turns Drain ≤ most Drain + 2 * length (letters_of store.format) * length sums) where
-    turns_made : (u : State) → Stored u → AreTurns s (told_by a store) (letters_of store.format) most u.turns u.arrays
+    turns_made : (u : State) → Stored u → AreTurns s (told_by a s store) (letters_of store.format) most u.turns u.arrays
     turns_made u l = record {
       points = length sums;
       have = has_points a s store sums are_rows is.format left_many;

@@ -80,7 +80,7 @@ module _ (a : Arithmetic) (laws : Laws a) (s : Statement) (formats : List (List 
     (c : Concrete) (in_order : IsInOrder s formats c) (loops : LoopCode) (adds : AddsRows s formats c loops)
     (words : shapes.EachTerm (λ t. HasWords t.expr) loops) (store : Store) (is : IsStoreOf s formats store) where
   read_store : IsReadStore s formats store
-  read_store = record { numbered = f.numbered; named = f.named; read = f.read; is = is }
+  read_store = record { numbered = f.numbered; named = f.named; flat = f.flat; read = f.read; is = is }
 
   ordered : HasOrderedResult s formats
   ordered = record { numbered = f.numbered; named = f.named; left = f.left; format = f.format; some = f.some }
@@ -92,10 +92,10 @@ module _ (a : Arithmetic) (laws : Laws a) (s : Statement) (formats : List (List 
   keys = left_in_order s in_order.order
 
   abbrev rows : List Entry
-  rows = rows_to a s formats (told_by a store) (stored_in (operands_in s store)) (left_in_order s in_order.order) loops
+  rows = rows_to a s formats (told_by a s store) (stored_in (operands_in s store)) (left_in_order s in_order.order) loops
 
   abbrev sums : List Entry
-  sums = sums_of a (rows_to a s formats (told_by a store) (stored_in (operands_in s store)) (left_in_order s in_order.order) loops)
+  sums = sums_of a (rows_to a s formats (told_by a s store) (stored_in (operands_in s store)) (left_in_order s in_order.order) loops)
 
   are_rows : AreRowsOfResult a s store sums
   are_rows = loops_sum_to_result a laws s formats ordered store read_store c in_order loops adds words
@@ -245,8 +245,8 @@ module _ (a : Arithmetic) (laws : Laws a) (s : Statement) (formats : List (List 
         from_loops
 
     pub ends : kernel.body ≡ (top ++ code) ++ (sorting_code k.number g ++ drain)
-        → EndsSo a (length store.format) kernel arrays (λ outcome. IsRightOutcome a s (told_by a store) store outcome
-        × MakesTurns s (told_by a store) (letters_of store.format) most outcome)
+        → EndsSo a (length store.format) kernel arrays (λ outcome. IsRightOutcome a s (told_by a s store) store outcome
+        × MakesTurns s (told_by a s store) (letters_of store.format) most outcome)
     ends body =
         let e = ends_as_code_does a (length store.format) kernel arrays IsEnd MayBe
         (subst (λ (b : List KStmt). Does setting b begin IsEnd MayBe) (sym body) whole) in

@@ -58,7 +58,7 @@ module _ (a : Arithmetic) (s : Statement) (store : Store) (rows : List Entry) (a
     (format : IsFormat store.format) (many : length s.left.vars ≡ length store.format) where
   -- the coordinates are a point of the support, that of the row
   abbrev IsPointOf : ℕ → List ℕ → Type 0
-  IsPointOf i coords = IsInSupport s (told_by a store) coords × HasRow store.format (table_of rows) coords i
+  IsPointOf i coords = IsInSupport s (told_by a s store) coords × HasRow store.format (table_of rows) coords i
 
   abbrev point_at : (i : ℕ) → (i < length rows) ⊎ (length rows ≤ i) → List ℕ
   point_at i (inl h) = (are.named.none_else i h).0
@@ -74,7 +74,7 @@ module _ (a : Arithmetic) (s : Statement) (store : Store) (rows : List Entry) (a
       by (inl g) = let p = are.named.none_else i g in (p.1, p.2)
       by (inr g) = absurd (omega (arith, h, g))
 
-  coords_many : (coords : List ℕ) → IsInSupport s (told_by a store) coords → length coords ≡ length store.format
+  coords_many : (coords : List ℕ) → IsInSupport s (told_by a s store) coords → length coords ≡ length store.format
   coords_many coords support = below_long (slice_index store.ranges) s.left.vars coords support.0 ∙ many
 
   -- no two rows have one point
@@ -96,7 +96,7 @@ module _ (a : Arithmetic) (s : Statement) (store : Store) (rows : List Entry) (a
       ∙ ap (λ d. (table_of rows).coords d j) here in
       omega (arith, smaller, equal)
 
-  found : (coords : List ℕ) → IsInSupport s (told_by a store) coords → (i : ℕ) × (i < length rows) × (point i ≡ coords)
+  found : (coords : List ℕ) → IsInSupport s (told_by a s store) coords → (i : ℕ) × (i < length rows) × (point i ≡ coords)
   found coords support =
       let n = are.named.named coords support in
       let p = is_point n.0 n.1.0 in (
@@ -106,7 +106,7 @@ module _ (a : Arithmetic) (s : Statement) (store : Store) (rows : List Entry) (a
             (sym p.1.1 ∙ n.1.1),
       )
 
-  pub has_points : HasPoints s (told_by a store) (length rows)
+  pub has_points : HasPoints s (told_by a s store) (length rows)
   has_points = record {
     point = point;
     there = λ i h. (is_point i h).0;

@@ -1,7 +1,7 @@
 -- What a run starts with: the loops are at their top, and the result has no value yet.
 use Rattle.std.specs.Prelude.{◌≡◌, ℕ, suc, ◌<◌, nat_lt, Bool, true, false, List, [], ◌∷◌, length, map, Option, Some, None, option_map}
 use Rattle.std.specs.Prelude.{slice_get, slice_index, refl}
-use Rattle.std.proofs.Common.{◌∙◌, sym, ap, subst, arith}
+use Rattle.std.proofs.Common.{◌∙◌, sym, ap, subst, arith, inr}
 use Rattle.std.proofs.lemmas.Bool.Decides.{nat_tests}
 use Rattle.std.proofs.lemmas.List.Elements.{All-nil, All-cons}
 use Rattle.std.proofs.lemmas.Option.{slice_get-map, slice_get_within, get_or_from_slice_get}
@@ -34,7 +34,7 @@ use Rattle.kernel_correctness.specs.Stores.{Store, IsGiven, StartsBelow}
 use Rattle.level_core.specs.Kinds.{properties, parents_below}
 use Rattle.operand_arrays.specs.Operands.{IsOfOperands}
 use Rattle.dense_results.specs.Kernels.{AreAtBase}
-use Rattle.dense_results.specs.Operands.{IsReadStore}
+use Rattle.dense_results.specs.Operands.{IsReadStore, first_summed}
 use Rattle.dense_results.proofs.Operands.{arrays_stand}
 use Rattle.sparse_kernels.specs.Kernels.{IsAtTop}
 
@@ -68,16 +68,16 @@ levels_beside w tensor level (ListPositions n) h g = g
 record IsNew (s : Statement) (base k : ℕ) (p : AccessPlace) : Type 0 where
   access : Access
   is : slice_get s.accesses k ≡ Some access
-  place : p ≡ new_access base access.tensor
+  place : p ≡ new_access base (first_summed s) access.tensor
 
 place_new : (s : Statement) (base : ℕ) (places : Places) → AreAtBase s base places → (k : ℕ) (p : AccessPlace)
     → slice_get places.accesses k ≡ Some p → IsNew s base k p
 place_new s base places at k p is = by (slice_get s.accesses k) refl
   where
-    told : option_map (new_access base) (option_map (λ (x : Access). x.tensor) (slice_get s.accesses k)) ≡ Some p
+    told : option_map (new_access base (first_summed s)) (option_map (λ (x : Access). x.tensor) (slice_get s.accesses k)) ≡ Some p
     told =
-        ap (option_map (new_access base)) (sym (slice_get-map (λ (x : Access). x.tensor) s.accesses k))
-        ∙ sym (slice_get-map (new_access base) (map (λ (x : Access). x.tensor) s.accesses) k)
+        ap (option_map (new_access base (first_summed s))) (sym (slice_get-map (λ (x : Access). x.tensor) s.accesses k))
+        ∙ sym (slice_get-map (new_access base (first_summed s)) (map (λ (x : Access). x.tensor) s.accesses) k)
         ∙ ap (λ ps. slice_get ps k) (sym at) ∙ is
 
     none : None ≡ Some p → ⊥
@@ -88,12 +88,12 @@ place_new s base places at k p is = by (slice_get s.accesses k) refl
 
     by : (o : Option Access) → slice_get s.accesses k ≡ o → IsNew s base k p
     by None e =
-        absurd (none (ap (λ o. option_map (new_access base) (option_map (λ (x : Access). x.tensor) o)) (sym e) ∙ told))
+        absurd (none (ap (λ o. option_map (new_access base (first_summed s)) (option_map (λ (x : Access). x.tensor) o)) (sym e) ∙ told))
     by (Some x) e = record {
       access = x;
       is = e;
-      place = some (new_access base x.tensor)
-          (ap (λ o. option_map (new_access base) (option_map (λ (y : Access). y.tensor) o)) (sym e) ∙ told);
+      place = some (new_access base (first_summed s) x.tensor)
+          (ap (λ o. option_map (new_access base (first_summed s)) (option_map (λ (y : Access). y.tensor) o)) (sym e) ∙ told);
     }
 
 pub at_top : (a : Arithmetic) (k : WorkspaceSink) (s : Statement) (formats : List (List FormatLevel)) (store : Store)
@@ -102,14 +102,15 @@ pub at_top : (a : Arithmetic) (k : WorkspaceSink) (s : Statement) (formats : Lis
     → IsAtTop a k s formats store places st
 at_top a k s formats store r base places at st given left held = record {
   stands = arrays_stand s formats store r a.zero st.arrays given places.accesses (λ j p is.
-      let n = place_new s base places at j p is in (n.access, n.is, ap (λ (q : AccessPlace). q.tensor) n.place));
+      let n = place_new s base places at j p is in
+      (n.access, n.is, ap (λ (q : AccessPlace). q.tensor) n.place, ap (λ (q : AccessPlace). q.is_sum) n.place));
   keeps = record {
     points = λ v h. absurd (cc);
     cursors = λ j p is.
         let n = place_new s base places at j p is in
         subst (λ b. ChildLeft b (Some (one 0)) st) (sym (ap (λ (q : AccessPlace). q.cursor) n.place)) left;
   };
-  from = record { variables = λ j d h. omega arith; accesses = λ j p is. omega arith };
+  from = record { variables = λ j d h. inr (omega arith); accesses = λ j p is. inr (omega arith) };
   none = λ y no. absurd no;
   kept = operands_beside k.number;
   held = held;

@@ -15,7 +15,6 @@ use Rattle.format_spec.specs.Formats.{IsFormat, letters_of}
 use Rattle.index_notation.specs.Statement.{IsNumbered, IsWellNamed}
 use Rattle.index_notation.specs.declared.syntax.Statement.{Statement}
 use Rattle.iteration_graph.specs.Edges.{format_of, HasFormat}
-use Rattle.lists.specs.Each.{Each}
 use Rattle.expr_terms.specs.ValueLaws.{HasWords}
 use Rattle.concrete_notation.specs.declared.concrete.Concrete.{Concrete}
 use Rattle.concrete_notation.specs.Nests.{left_in_order}
@@ -33,21 +32,22 @@ use Rattle.term_code.specs.declared.places.Places.{Places}
 use Rattle.term_code.specs.WorkspaceSinks.{workspace_sink}
 use Rattle.term_code.specs.Places.{Keeps, StartsAt}
 use Rattle.kernel_correctness.specs.Kernels.{Ends, IsRightOutcome}
-use Rattle.kernel_correctness.specs.Stores.{Store, IsGiven, IsStoreOf, told_by}
-use Rattle.operand_arrays.specs.Apart.{AreFrom}
+use Rattle.kernel_correctness.specs.Stores.{Store, IsFlat, IsGiven, IsStoreOf, told_by}
+use Rattle.operand_arrays.specs.Apart.{AreOutside}
 use Rattle.operand_arrays.specs.Operands.{stored_in, IsOfOperands}
 use Rattle.dense_results.specs.Kernels.{AreAtBase}
-use Rattle.dense_results.specs.Operands.{IsReadStore, ArrayStands, operands_in}
+use Rattle.dense_results.specs.Operands.{AreFormatted, IsReadStore, ArrayStands, operands_in}
 use Rattle.dense_results.specs.Results.{left_ranges}
 use Rattle.result_assembly.specs.Stored.{DrainsResult}
 use Rattle.sparse_kernels.specs.Turns.{MakesTurns}
 
--- a statement with a format for each tensor, that of its result not dense throughout
+-- a statement with a format for each tensor that stands for no sum, that of its result not dense throughout
 pub record IsForSparse (s : Statement) (formats : List (List FormatLevel)) : Type 0 where
   pub numbered : IsNumbered s
   pub named : IsWellNamed s
   pub left : HasFormat formats s.left
-  pub read : Each (HasFormat formats) s.accesses
+  pub flat : IsFlat s formats
+  pub read : AreFormatted s formats
   pub format : IsFormat (format_of formats 0)
   pub some : AreAllDense (format_of formats 0) → ⊥
 
@@ -57,7 +57,7 @@ pub record IsAtTop (a : Arithmetic) (k : WorkspaceSink) (s : Statement) (formats
     (places : Places) (st : State) : Type 0 where
   pub stands : ArrayStands s formats store places.accesses st.arrays
   pub keeps : Keeps places [] start st
-  pub from : AreFrom 0 places
+  pub from : AreOutside 0 0 places
   pub none : (y : ℕ) → workspace_sink.mine k y → y < 0
   pub kept : (b : Arr) → IsOfOperands b → workspace_sink.kept k b
   pub held : workspace_sink.holds k a (left_ranges s store) [] st
@@ -71,7 +71,7 @@ pub record PushesFromTop (a : Arithmetic) (k : WorkspaceSink) (s : Statement) (f
   pub pushes : (c : Setting) → c.arithmetic ≡ a → (store : Store) → IsReadStore s formats store
       → (st : State) → IsAtTop a k s formats store places st → HasLists list past st
       → Adds (beside_lists workspace_sink list past) k c (left_ranges s store) code free (most store) []
-      (rows_to a s formats (told_by a store) (stored_in (operands_in s store)) keys loops) st
+      (rows_to a s formats (told_by a s store) (stored_in (operands_in s store)) keys loops) st
 
 -- the rows of workspace w are sorted and summed, and in scratch list g each is given the one position above all levels
 abbrev pub sorting_code : ℕ → ℕ → List KStmt
@@ -90,5 +90,5 @@ SparseKernelsAreRight = (a : Arithmetic) → Laws a → (s : Statement) (formats
     → (kernel : Kernel) → slice_get kernel.workspaces k.number ≡ Some k.keys → g < kernel.lists → past ≤ kernel.lists
     → kernel.body ≡ (top ++ code) ++ (sorting_code k.number g ++ drain)
     → (store : Store) → IsStoreOf s formats store → (arrays : Arrays) → IsGiven a.zero store arrays
-    → Ends a (length store.format) kernel arrays (λ outcome. IsRightOutcome a s (told_by a store) store outcome
-    × MakesTurns s (told_by a store) (letters_of store.format) (pushes.most store) outcome)
+    → Ends a (length store.format) kernel arrays (λ outcome. IsRightOutcome a s (told_by a s store) store outcome
+    × MakesTurns s (told_by a s store) (letters_of store.format) (pushes.most store) outcome)

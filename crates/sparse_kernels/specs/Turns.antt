@@ -21,8 +21,8 @@ pub record HasPoints (s : Statement) (inputs : Inputs) (count : ℕ) : Type 0 wh
 abbrev pub AreNotWider : ℕ → Arrays → Type 0
 AreNotWider width arrays = (level : ℕ) → NotWider width level arrays
 
--- no more turns than the code of loops makes, but for each point of the support and each of these levels two more drain turns at most, and as
--- many probe turns as a block of slots is wide, in the arrays that are left
+-- no more turns than the code of loops makes, but for each point of the support and each of these levels two more drain turns at most, and
+-- as many probe turns as a block of slots is wide, in the arrays that are left
 pub record AreTurns (s : Statement) (inputs : Inputs) (letters : List Letter) (most turns : LoopKind → ℕ) (arrays : Arrays)
     : Type 0 where
   pub points : ℕ

@@ -1,5 +1,5 @@
 -- Growths that are refused may be.
-use Rattle.std.specs.Prelude.{◌≡◌, ◌⊎◌, ℕ, suc, ◌<◌, List, length, refl}
+use Rattle.std.specs.Prelude.{◌≡◌, ◌⊎◌, ℕ, suc, List, length, refl}
 use Rattle.std.proofs.Common.{sym, ap, subst, arith, inl, inr}
 use Rattle.limits.specs.Limits.{greatest_position_count, greatest_workspace_pairs}
 use Rattle.numbers.specs.Arithmetic.{Arithmetic}
@@ -55,11 +55,11 @@ workspace_place order w (ListPositions n) h = absurd h
 
 module _ (a : Arithmetic) (s : Statement) (store : Store) where
   abbrev IsRightAt : ℕ → Place → Type 0
-  IsRightAt count place = IsRightOutcome a s (told_by a store) store (TooLong place count)
+  IsRightAt count place = IsRightOutcome a s (told_by a s store) store (TooLong place count)
 
   level_passes : (rows : List Entry) → AreRowsOfResult a s store rows → (d : ℕ) (b : Arr) (count : ℕ)
       → PassesLevel store rows d b count → (level : ℕ) → IsToldAs (length store.format) d level
-      → MayPass a s (told_by a store) store level count
+      → MayPass a s (told_by a s store) store level count
   level_passes rows are d b count p level told = record {
     passes = p.above;
     table = table_of rows;
@@ -70,10 +70,11 @@ module _ (a : Arithmetic) (s : Statement) (store : Store) where
   }
 
   pub level_may_pass : (rows : List Entry) → AreRowsOfResult a s store rows → (d : ℕ) (b : Arr) (count : ℕ)
-      → PassesLevel store rows d b count → IsRightOutcome a s (told_by a store) store (TooLong (place_of (length store.format) b) count)
+      → PassesLevel store rows d b count → IsRightOutcome a s (told_by a s store) store (TooLong (place_of (length store.format) b) count)
   level_may_pass rows are d b count p = by p.array
     where
-      by : IsOf 0 (suc d) b ⊎ (b ≡ Values 0) → IsRightOutcome a s (told_by a store) store (TooLong (place_of (length store.format) b) count)
+      by : IsOf 0 (suc d) b ⊎ (b ≡ Values 0)
+          → IsRightOutcome a s (told_by a s store) store (TooLong (place_of (length store.format) b) count)
       by (inl of) =
           subst (IsRightAt count) (sym (level_place (length store.format) d b of))
           (level_passes rows are d b count p (suc d) (inl (omega arith)))
@@ -91,12 +92,12 @@ same_limits = refl
 pub workspaces_may_pass : WorkspacesMayPass
 workspaces_may_pass a laws s formats store r some c in_order loops adds keys w b count p =
     let held = (told s formats store r a laws).held in
-    let many : length (rows_to a s formats (told_by a store) (stored_in (operands_in s store)) keys loops)
-    ≡ pairs s in_order.order (told_by a store) =
-    rows_are s formats c in_order loops adds a laws (told_by a store) (stored_in (operands_in s store)) held keys in
-    let standing : pairs s in_order.order (told_by a store) ≡ pairs s (standing_order s) (told_by a store) =
+    let many : length (rows_to a s formats (told_by a s store) (stored_in (operands_in s store)) keys loops)
+    ≡ pairs s in_order.order (told_by a s store) =
+    rows_are s formats c in_order loops adds a laws (told_by a s store) (stored_in (operands_in s store)) held keys in
+    let standing : pairs s in_order.order (told_by a s store) ≡ pairs s (standing_order s) (told_by a s store) =
     pairs_in_any_order s r.numbered in_order.order
-    (is_order_of (length s.vars) (statement_edges s formats) in_order.order in_order.is_order) (told_by a store) in
+    (is_order_of (length s.vars) (statement_edges s formats) in_order.order in_order.is_order) (told_by a s store) in
     let within = p.within in
     let above = p.above in
     let limits = same_limits in

@@ -14,8 +14,10 @@ use Rattle.expr_terms.specs.Points.{coords_at}
 use Rattle.concrete_notation.specs.declared.concrete.Concrete.{Concrete}
 use Rattle.concrete_notation.specs.Contributions.{rows_below}
 use Rattle.concrete_notation.specs.Nests.{left_in_order}
-use Rattle.loop_code.specs.declared.loops.LoopCode.{LoopCode, Add, Both', Loop', Row_of-LoopCode, end_of-LoopCode, more_of-LoopCode}
-use Rattle.loop_code.specs.Loops.{Layout, Stored, Env, start, moved, term_value, row_of, contributions, contributions_in}
+use Rattle.loop_code.specs.declared.loops.LoopCode.{LoopCode, Add, Both', Loop', Sum', Row_of-LoopCode, end_of-LoopCode}
+use Rattle.loop_code.specs.declared.loops.LoopCode.{more_of-LoopCode}
+use Rattle.loop_code.specs.Loops.{Layout, Stored, Env, start, at_cursor, moved, term_value, row_of, sum_of, contributions}
+use Rattle.loop_code.specs.Loops.{contributions_in}
 use Rattle.lowering.specs.Layouts.{layout_of}
 use Rattle.lowering.specs.Lowered.{IsInOrder}
 use Rattle.lowering.specs.Right.{rows_to}
@@ -25,8 +27,8 @@ use Rattle.kernel_correctness.specs.Stores.{Store, told_by}
 use Rattle.operand_arrays.specs.Operands.{stored_in}
 use Rattle.dense_results.specs.Operands.{IsReadStore, operands_in}
 use Rattle.dense_results.proofs.Ends.{index_small}
-use Rattle.dense_results.proofs.Operands.{told, word_small}
-use Rattle.dense_results.proofs.Rows.{rows_words}
+use Rattle.dense_results.proofs.Operands.{told}
+use Rattle.dense_results.proofs.Rows.{loops_words}
 use Rattle.sparse_results.specs.Keys.{HasOrderedResult}
 use Rattle.sparse_results.specs.Loops.{LoopsAddRows, LoopsSumToResult, StoresHaveSmallLevels}
 use Rattle.sparse_results.specs.Results.{AreLevelKeys, IsResultStore}
@@ -48,6 +50,7 @@ below_many n (suc count) f h = each_append (HasMany n) (rows_below count f) (f c
 
 module _ (a : Arithmetic) (layout : Layout) (stored : Stored) (ranges : ℕ → ℕ) (target : List ℕ) where
   mutual
+    -- the rows of loops with a sum are those of its body
     rows_many : (c : LoopCode) (env : Env) → Each (HasMany (length target)) (contributions a layout stored ranges target c env)
     rows_many (Loop' v seeks p body) env =
         below_many (length target) (ranges v)
@@ -58,6 +61,8 @@ module _ (a : Arithmetic) (layout : Layout) (stored : Stored) (ranges : ℕ → 
         (contributions_in a layout stored ranges target g env) (rows_many_in f env) (rows_many_in g env)
     rows_many (Add t) env =
         row_many (length target) (coords_at env.point target) (term_value a stored env t) (length-map target env.point)
+    rows_many (Sum' k p inside q body) env =
+        rows_many_in body (at_cursor env k (sum_of a (contributions_in a layout stored ranges [] inside env)))
 
     rows_many_in : {m : _} (row : Row_of-LoopCode m) (env : Env)
         → Each (HasMany (length target)) (contributions_in a layout stored ranges target row env)
@@ -70,10 +75,9 @@ both_so n (row ∷ rows) many words = (record { many = many.0; word = words.0 },
 
 pub loops_add_rows : LoopsAddRows
 loops_add_rows a laws s formats store r loops words keys =
-    both_so (length keys) (rows_to a s formats (told_by a store) (stored_in (operands_in s store)) keys loops)
+    both_so (length keys) (rows_to a s formats (told_by a s store) (stored_in (operands_in s store)) keys loops)
     (rows_many a (layout_of s formats) (stored_in (operands_in s store)) (slice_index store.ranges) keys loops start)
-    (rows_words a laws (layout_of s formats) (stored_in (operands_in s store)) (slice_index store.ranges) keys
-    (λ k position. word_small s formats store r k position) loops words start)
+    (loops_words a laws s formats store r keys loops words)
 
 module _ (a : Arithmetic) (laws : Laws a) (s : Statement) (formats : List (List FormatLevel)) (h : HasOrderedResult s formats)
     (store : Store) (r : IsReadStore s formats store) where
@@ -92,9 +96,9 @@ loops_sum_to_result a laws s formats h store r c in_order loops adds words =
     let t = told s formats store r a laws in
     let right = are_right s r.numbered formats c in_order r.named loops adds in
     are_rows a laws s formats store (result_store a laws s formats h store r) keys level
-    (rows_to a s formats (told_by a store) (stored_in (operands_in s store)) keys loops)
+    (rows_to a s formats (told_by a s store) (stored_in (operands_in s store)) keys loops)
     (loops_add_rows a laws s formats store r loops words keys)
-    (right.summed a laws (told_by a store) (stored_in (operands_in s store)) t.held t.elsewhere keys level.keys_are)
+    (right.summed a laws (told_by a s store) (stored_in (operands_in s store)) t.held t.elsewhere keys level.keys_are)
 
 levels_small : (format : List FormatLevel) (ranges : List ℕ) → All (λ range. range ≤ greatest_position_count) ranges
     → All (λ size. size ≤ greatest_position_count) (in_level_order format ranges)

@@ -173,7 +173,7 @@ module _ (a : Arithmetic) (laws : Laws a) (s : Statement) (formats : List (List 
           omega (arith, small, range)
 
   module _ (rows : List Entry) (each : Each (IsRow (length keys)) rows)
-      (have : HaveValues a s (told_by a store) (map (passed_on s.left.vars (λ v. 0) keys) (sums_of a rows))) where
+      (have : HaveValues a s (told_by a s store) (map (passed_on s.left.vars (λ v. 0) keys) (sums_of a rows))) where
     abbrev sums : List Entry
     sums = sums_of a rows
 
@@ -197,10 +197,10 @@ module _ (a : Arithmetic) (laws : Laws a) (s : Statement) (formats : List (List 
     point_coords : (i : ℕ) → i < length (sums_of a rows) → in_level_order store.format (point i) ≡ (row_of (sums_of a rows) i).coords
     point_coords i h = passed_coords (row_of (sums_of a rows) i).coords (row_long i h)
 
-    point_there : (i : ℕ) → i < length (sums_of a rows) → IsInSupport s (told_by a store) (point i)
+    point_there : (i : ℕ) → i < length (sums_of a rows) → IsInSupport s (told_by a s store) (point i)
     point_there i h = (have.support (point i)).0 (passed_there s.left.vars keys (sums_of a rows) i h)
 
-    named : (coords : List ℕ) → IsInSupport s (told_by a store) coords
+    named : (coords : List ℕ) → IsInSupport s (told_by a s store) coords
         → (i : ℕ) × HasRow store.format (table_of (sums_of a rows)) coords i
     named coords support =
         let p = passed_found s.left.vars keys (sums_of a rows) coords ((have.support coords).1 support) in (
@@ -212,12 +212,12 @@ module _ (a : Arithmetic) (laws : Laws a) (s : Statement) (formats : List (List 
         )
 
     none_else : (i : ℕ) → i < length (sums_of a rows)
-        → (coords : List ℕ) × IsInSupport s (told_by a store) coords × HasRow store.format (table_of (sums_of a rows)) coords i
+        → (coords : List ℕ) × IsInSupport s (told_by a s store) coords × HasRow store.format (table_of (sums_of a rows)) coords i
     none_else i h = (point i, point_there i h, (h, row_coords i h ∙ sym (point_coords i h)))
 
-    row_value : (i : ℕ) (coords : List ℕ) → IsInSupport s (told_by a store) coords
+    row_value : (i : ℕ) (coords : List ℕ) → IsInSupport s (told_by a s store) coords
         → HasRow store.format (table_of (sums_of a rows)) coords i
-        → (row_of (sums_of a rows) i).value ≡ statement_value a s (told_by a store).values (told_by a store).ranges coords
+        → (row_of (sums_of a rows) i).value ≡ statement_value a s (told_by a s store).values (told_by a s store).ranges coords
     row_value i coords support row =
         let long : length coords ≡ length s.left.vars = below_long (slice_index store.ranges) s.left.vars coords support.0 in
         let same : (row_of (sums_of a rows) i).coords ≡ map (point_of s.left.vars coords) keys =

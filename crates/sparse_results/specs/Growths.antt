@@ -34,12 +34,12 @@ pub record PassesLevel (store : Store) (rows : List Entry) (d : ℕ) (b : Arr) (
 abbrev pub LevelsMayPass : Type 0
 LevelsMayPass = (a : Arithmetic) (s : Statement) (store : Store) (rows : List Entry) → AreRowsOfResult a s store rows
     → (d : ℕ) (b : Arr) (count : ℕ) → PassesLevel store rows d b count
-    → IsRightOutcome a s (told_by a store) store (TooLong (place_of (length store.format) b) count)
+    → IsRightOutcome a s (told_by a s store) store (TooLong (place_of (length store.format) b) count)
 
 -- so may the workspace into which the rows of a statement's loops are pushed, where the result isn't dense throughout
 abbrev pub WorkspacesMayPass : Type 0
 WorkspacesMayPass = (a : Arithmetic) → Laws a → (s : Statement) (formats : List (List FormatLevel)) (store : Store)
     → IsReadStore s formats store → (AreAllDense store.format → ⊥) → (c : Concrete) → IsInOrder s formats c
     → (loops : LoopCode) → AddsRows s formats c loops → (keys : List ℕ) (w : ℕ) (b : Arr) (count : ℕ)
-    → PassesPairs w (rows_to a s formats (told_by a store) (stored_in (operands_in s store)) keys loops) b count
-    → IsRightOutcome a s (told_by a store) store (TooLong (place_of (length store.format) b) count)
+    → PassesPairs w (rows_to a s formats (told_by a s store) (stored_in (operands_in s store)) keys loops) b count
+    → IsRightOutcome a s (told_by a s store) store (TooLong (place_of (length store.format) b) count)

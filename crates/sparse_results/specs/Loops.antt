@@ -26,7 +26,7 @@ use Rattle.sparse_results.specs.Tables.{IsRow}
 abbrev pub LoopsAddRows : Type 0
 LoopsAddRows = (a : Arithmetic) → Laws a → (s : Statement) (formats : List (List FormatLevel)) (store : Store)
     → IsReadStore s formats store → (loops : LoopCode) → shapes.EachTerm (λ t. HasWords t.expr) loops → (keys : List ℕ)
-    → Each (IsRow (length keys)) (rows_to a s formats (told_by a store) (stored_in (operands_in s store)) keys loops)
+    → Each (IsRow (length keys)) (rows_to a s formats (told_by a s store) (stored_in (operands_in s store)) keys loops)
 
 -- the sums of the rows that the loops of a statement add to the left variables in loop order are the rows of its result
 abbrev pub LoopsSumToResult : Type 0
@@ -34,7 +34,7 @@ LoopsSumToResult = (a : Arithmetic) → Laws a → (s : Statement) (formats : Li
     → (store : Store) → IsReadStore s formats store → (c : Concrete) (in_order : IsInOrder s formats c)
     → (loops : LoopCode) → AddsRows s formats c loops → shapes.EachTerm (λ t. HasWords t.expr) loops
     → AreRowsOfResult a s store
-    (sums_of a (rows_to a s formats (told_by a store) (stored_in (operands_in s store)) (left_in_order s in_order.order) loops))
+    (sums_of a (rows_to a s formats (told_by a s store) (stored_in (operands_in s store)) (left_in_order s in_order.order) loops))
 
 -- there is a range for each level of the result, none above the limit
 pub record HasSmallLevels (store : Store) : Type 0 where

@@ -25,7 +25,7 @@ pub record IsResultStore (s : Statement) (formats : List (List FormatLevel)) (st
 -- the rows name the points of the statement's support, each once and with the statement's value, increase level by level, and are
 -- below the levels' ranges
 pub record AreRowsOfResult (a : Arithmetic) (s : Statement) (store : Store) (rows : List Entry) : Type 0 where
-  pub named : IsNamedResult a s (told_by a store) store.format (table_of rows)
+  pub named : IsNamedResult a s (told_by a s store) store.format (table_of rows)
   pub order : Increase (table_of rows).coords (length store.format) (length rows)
   pub below : AreBelow (table_of rows) (in_level_order store.format store.ranges)
 
@@ -39,5 +39,5 @@ abbrev pub SumsAreRows : Type 0
 SumsAreRows = (a : Arithmetic) → Laws a → (s : Statement) (formats : List (List FormatLevel)) (store : Store)
     → IsResultStore s formats store → (keys : List ℕ) → AreLevelKeys s store.format keys
     → (rows : List Entry) → Each (IsRow (length keys)) rows
-    → HaveValues a s (told_by a store) (map (passed_on s.left.vars (λ v. 0) keys) (sums_of a rows))
+    → HaveValues a s (told_by a s store) (map (passed_on s.left.vars (λ v. 0) keys) (sums_of a rows))
     → AreRowsOfResult a s store (sums_of a rows)

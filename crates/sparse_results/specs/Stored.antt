@@ -27,7 +27,7 @@ pub record StandForRows (a : Arithmetic) (store : Store) (rows : List Entry) (ar
 -- where these rows are those of a statement's result, the arrays leave it
 abbrev pub StandingIsResult : Type 0
 StandingIsResult = (a : Arithmetic) (s : Statement) (store : Store) (rows : List Entry) → AreRowsOfResult a s store rows
-    → (arrays : Arrays) → StandForRows a store rows arrays → LeavesResult a s (told_by a store) store arrays
+    → (arrays : Arrays) → StandForRows a store rows arrays → LeavesResult a s (told_by a s store) store arrays
 
 -- the columns of a workspace that holds rows are those of their table
 pub record AreColumns (rows : List Entry) : Type 0 where

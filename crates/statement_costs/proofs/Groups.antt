@@ -1,7 +1,7 @@
 -- Totals of groups: they don't depend on the order of terms, those of terms that share no loop add up, and those of terms in one loop
 -- are what the loop's group has.
 use Rattle.std.specs.Prelude.{◌≡◌, ◌⊎◌, ℕ, ◌+◌, ◌≤◌, nat_eq, cond, Bool, true, false, ◌||◌, if◌then◌else◌, List, [], ◌∷◌, ◌++◌}
-use Rattle.std.specs.Prelude.{map, filter, refl}
+use Rattle.std.specs.Prelude.{length, map, filter, Option, Some, refl}
 use Rattle.std.specs.List.{sum_by}
 use Rattle.std.specs.List.Sorted.{IsPermutation}
 use Rattle.std.proofs.Common.{◌∙◌, sym, ap, subst, arith, inl, inr}
@@ -15,11 +15,14 @@ use Rattle.index_notation.specs.declared.syntax.Expr.{Expr}
 use Rattle.index_notation.specs.declared.syntax.Statement.{Statement}
 use Rattle.lists.specs.Each.{Each}
 use Rattle.expr_terms.specs.Points.{with_coordinate}
+use Rattle.expr_terms.specs.Terms.{contains}
 use Rattle.concrete_notation.specs.Nests.{Nest, inside}
 use Rattle.loop_code.specs.Loops.{Stored}
-use Rattle.loop_code.specs.Parts.{remains}
+use Rattle.loop_code.specs.Parts.{given, is_live, remains}
 use Rattle.loop_code.specs.Turns.{count_below}
-use Rattle.statement_costs.specs.Costs.{group_of, inside_of, is_here, some_term, total}
+use Rattle.lowering.specs.Sums.{first_sum, starts_at}
+use Rattle.statement_costs.specs.Costs.{group_of, has_started, has_started_before, in_place, inside_of, is_here, is_there, is_wanted}
+use Rattle.statement_costs.specs.Costs.{of_starting, opened_group, own_group, some_term, total, with_others}
 use Rattle.statement_costs.proofs.Parts.{same_if}
 
 -- each number of a term, summed, is the same
@@ -72,6 +75,14 @@ sum_group v f (n ∷ nests) =
 same_group : (v : ℕ) (xs ys : List Nest) → AreSame xs ys → AreSame (group_of v xs) (group_of v ys)
 same_group v xs ys same f =
     sum_group v f xs ∙ same (λ (n : Nest). sum_by f (inside_of v n.loops n.term)) ∙ sym (sum_group v f ys)
+
+sum_mapped : (g : Nest → Nest) (f : Nest → ℕ) (xs : List Nest) → sum_by f (map g xs) ≡ sum_by (λ x. f (g x)) xs
+sum_mapped g f [] = refl
+sum_mapped g f (x ∷ xs) =
+    sum_by-cons f (g x) (map g xs) ∙ ap (λ m. f (g x) + m) (sum_mapped g f xs) ∙ sym (sum_by-cons (λ y. f (g y)) x xs)
+
+same_mapped : (g : Nest → Nest) (xs ys : List Nest) → AreSame xs ys → AreSame (map g xs) (map g ys)
+same_mapped g xs ys same f = sum_mapped g f xs ∙ same (λ x. f (g x)) ∙ sym (sum_mapped g f ys)
 
 -- loops in the order of some variables
 abbrev Choose : Bool → Type 0 → Type 0 → Type 0
@@ -134,6 +145,20 @@ along_passed u v order (n ∷ nests) is along = (
   along_passed u v order nests is along.1,
 )
 
+-- one loop goes along any order in which its variable stands
+pub along_one : (order : List ℕ) (w : ℕ) → contains order w ≡ true → IsAlong order (w ∷ [])
+along_one [] w h = absurd (cc h)
+along_one (v ∷ order) w h = by (nat_eq v w) h (along_one order w)
+  where
+    nothing : (xs : List ℕ) → IsAlong xs []
+    nothing [] = tt
+    nothing (x ∷ xs) = tt
+
+    by : (b : Bool) → (b || contains order w) ≡ true → (contains order w ≡ true → IsAlong order (w ∷ []))
+        → Choose b (IsAlong order []) (IsAlong order (w ∷ []))
+    by true g more = nothing order
+    by false g more = more g
+
 -- terms in a loop are its group
 pub group_inside : (v : ℕ) (nests : List Nest) → group_of v (map (inside v) nests) ≡ nests
 group_inside v [] = refl
@@ -147,12 +172,38 @@ group_other w v (n ∷ nests) is =
 
 module _ (s : Statement) (formats : List (List FormatLevel)) (stored : Stored) (ranges : ℕ → ℕ)
     (number : List Nest → List ℕ → (ℕ → ℕ) → ℕ → ℕ) where
+  -- the sums that start at a point
+  abbrev pub starting : List ℕ → Option ℕ → List ℕ → (ℕ → ℕ) → List Nest → ℕ
+  starting order innermost bound point group =
+      of_starting s formats stored ranges (λ own. total s formats stored ranges number order own bound point) innermost bound point group
+
+  -- the sums that are wanted don't depend on the order of terms
+  pub starting_same : (order : List ℕ) (innermost : Option ℕ) (bound : List ℕ) (point : ℕ → ℕ) (xs ys : List Nest) → AreSame xs ys
+      → starting order innermost bound point xs ≡ starting order innermost bound point ys
+  starting_same order innermost bound point xs ys same =
+      λ i. count_below (length s.sums) (λ n. if starts_at s (λ k. wanted n i) innermost bound n
+      then total s formats stored ranges number order (own_group s n) bound point else 0)
+    where
+      wanted : (n : ℕ) → is_wanted s formats stored ranges innermost bound point xs n
+          ≡ is_wanted s formats stored ranges innermost bound point ys n
+      wanted n =
+          some_same
+          (λ e. is_live
+          (given (is_there s formats stored ranges (has_started_before s innermost bound (first_sum s + n)) bound point) (first_sum s + n)
+          (some_term (remains (is_there s formats stored ranges (has_started_before s innermost bound (first_sum s + n)) bound point))
+          (opened_group s (has_started_before s innermost bound (first_sum s + n)) (own_group s n)))) e (first_sum s + n))
+          (opened_group s (given (has_started_before s innermost bound (first_sum s + n)) (first_sum s + n) true) xs)
+          (opened_group s (given (has_started_before s innermost bound (first_sum s + n)) (first_sum s + n) true) ys)
+          (same_mapped (with_others (in_place s (given (has_started_before s innermost bound (first_sum s + n)) (first_sum s + n) true)
+          (length s.sums))) xs ys same)
+
   -- a group and those that it falls into
   abbrev pub entered : ℕ → List ℕ → List Nest → List ℕ → (ℕ → ℕ) → ℕ
   entered v order group bound point =
-      if some_term (remains (is_here s formats stored bound point)) group
-      then number group bound point v
-      + count_below (ranges v) (λ x. total s formats stored ranges number order group (v ∷ bound) (with_coordinate point v x)) else 0
+      if some_term (remains (is_here s formats stored ranges bound point)) (opened_group s (has_started s bound) group)
+      then number (opened_group s (has_started s bound) group) bound point v
+      + count_below (ranges v) (λ x. starting order (Some v) (v ∷ bound) (with_coordinate point v x) group
+      + total s formats stored ranges number order group (v ∷ bound) (with_coordinate point v x)) else 0
 
   -- the order of terms doesn't matter
   pub total_same : ((xs ys : List Nest) (bound : List ℕ) (point : ℕ → ℕ) (v : ℕ) → AreSame xs ys
@@ -162,13 +213,20 @@ module _ (s : Statement) (formats : List (List FormatLevel)) (stored : Stored) (
   total_same numbers [] xs ys same bound point = refl
   total_same numbers (v ∷ order) xs ys same bound point =
       let groups : AreSame (group_of v xs) (group_of v ys) = same_group v xs ys same in
-      let left = some_same (remains (is_here s formats stored bound point)) (group_of v xs) (group_of v ys) groups in
-      let own = numbers (group_of v xs) (group_of v ys) bound point v groups in
+      let opened : AreSame (opened_group s (has_started s bound) (group_of v xs)) (opened_group s (has_started s bound) (group_of v ys)) =
+      same_mapped (with_others (in_place s (has_started s bound) (length s.sums))) (group_of v xs) (group_of v ys) groups in
+      let left = some_same (remains (is_here s formats stored ranges bound point)) (opened_group s (has_started s bound) (group_of v xs))
+      (opened_group s (has_started s bound) (group_of v ys)) opened in
+      let own = numbers (opened_group s (has_started s bound) (group_of v xs)) (opened_group s (has_started s bound) (group_of v ys)) bound
+      point v opened in
+      let sums : (x : ℕ) → starting order (Some v) (v ∷ bound) (with_coordinate point v x) (group_of v xs)
+      ≡ starting order (Some v) (v ∷ bound) (with_coordinate point v x) (group_of v ys) =
+      λ x. starting_same order (Some v) (v ∷ bound) (with_coordinate point v x) (group_of v xs) (group_of v ys) groups in
       let more : (x : ℕ) → total s formats stored ranges number order (group_of v xs) (v ∷ bound) (with_coordinate point v x)
       ≡ total s formats stored ranges number order (group_of v ys) (v ∷ bound) (with_coordinate point v x) =
       λ x. total_same numbers order (group_of v xs) (group_of v ys) groups (v ∷ bound) (with_coordinate point v x) in
       let rest = total_same numbers order xs ys same bound point in
-      λ i. (if left i then own i + count_below (ranges v) (λ x. more x i) else 0) + rest i
+      λ i. (if left i then own i + count_below (ranges v) (λ x. sums x i + more x i) else 0) + rest i
 
   plus_none : (m : ℕ) → m + 0 ≡ m
   plus_none m = omega arith
@@ -203,22 +261,24 @@ module _ (s : Statement) (formats : List (List FormatLevel)) (stored : Stored) (
           ∙ ap (λ g. entered v order g bound point)
           (sym (group_both ∙ ap (λ g. group_of v xs ++ g) none ∙ append-nil (group_of v xs)))
 
-  -- terms in one loop
-  pub total_loop : (v : ℕ) (nests : List Nest) (bound : List ℕ) (point : ℕ → ℕ) (m : ℕ)
-      → ((rest : List ℕ) → AreAlong rest nests → m ≤ entered v rest nests bound point)
-      → (order : List ℕ) → AreAlong order (map (inside v) nests)
-      → m ≤ total s formats stored ranges number order (map (inside v) nests) bound point
-  total_loop v [] bound point m f [] along = f [] tt
-  total_loop v (n ∷ nests) bound point m f [] along = absurd along.0
-  total_loop v nests bound point m f (u ∷ order) along =
-      by (λ passed. total_loop v nests bound point m f order passed) (nat_eq u v) refl
-    where
-      taken : u ≡ v → nat_eq u v ≡ true → m ≤ entered u order (group_of u (map (inside v) nests)) bound point
-      taken same is =
-          subst (λ w. m ≤ entered w order (group_of w (map (inside v) nests)) bound point) (sym same)
-          (subst (λ g. m ≤ entered v order g bound point) (sym (group_inside v nests)) (f order (along_taken u v order nests is along)))
+  -- terms in one loop, where something is so of each order that is left
+  module _ (Q : List ℕ → Type 0) (tail : (u : ℕ) (order : List ℕ) → Q (u ∷ order) → Q order) where
+    pub total_loop : (v : ℕ) (nests : List Nest) (bound : List ℕ) (point : ℕ → ℕ) (m : ℕ) → (nests ≡ [] → m ≤ 0)
+        → ((rest : List ℕ) → AreAlong rest nests → Q (v ∷ rest) → m ≤ entered v rest nests bound point)
+        → (order : List ℕ) → Q order → AreAlong order (map (inside v) nests)
+        → m ≤ total s formats stored ranges number order (map (inside v) nests) bound point
+    total_loop v [] bound point m none f [] q along = none refl
+    total_loop v (n ∷ nests) bound point m none f [] q along = absurd along.0
+    total_loop v nests bound point m none f (u ∷ order) q along =
+        by (λ passed. total_loop v nests bound point m none f order (tail u order q) passed) (nat_eq u v) refl
+      where
+        taken : u ≡ v → nat_eq u v ≡ true → m ≤ entered u order (group_of u (map (inside v) nests)) bound point
+        taken same is =
+            subst (λ w. m ≤ entered w order (group_of w (map (inside v) nests)) bound point) (sym same)
+            (subst (λ g. m ≤ entered v order g bound point) (sym (group_inside v nests))
+            (f order (along_taken u v order nests is along) (subst (λ w. Q (w ∷ order)) same q)))
 
-      by : (AreAlong order (map (inside v) nests) → m ≤ total s formats stored ranges number order (map (inside v) nests) bound point)
-          → (b : Bool) → nat_eq u v ≡ b → m ≤ total s formats stored ranges number (u ∷ order) (map (inside v) nests) bound point
-      by more true is = let most = taken (same_by u v is) is in omega (arith, most)
-      by more false is = let most = more (along_passed u v order nests is along) in omega (arith, most)
+        by : (AreAlong order (map (inside v) nests) → m ≤ total s formats stored ranges number order (map (inside v) nests) bound point)
+            → (b : Bool) → nat_eq u v ≡ b → m ≤ total s formats stored ranges number (u ∷ order) (map (inside v) nests) bound point
+        by more true is = let most = taken (same_by u v is) is in omega (arith, most)
+        by more false is = let most = more (along_passed u v order nests is along) in omega (arith, most)

@@ -23,7 +23,9 @@ use Rattle.loop_code.specs.Loops.{follow}
 use Rattle.lowering.specs.Held.{path_span}
 use Rattle.lowering.specs.Layouts.{layout_of, variables_of}
 use Rattle.lowering.specs.Stored.{HasStorage, entries_behind, levels_stored, stored_of}
+use Rattle.lowering.specs.Sums.{HasSums, first_sum}
 use Rattle.lowering.proofs.HeldStorages.{map_long, some_or_none}
+use Rattle.lowering.proofs.Standing.{none_behind}
 use Rattle.statement_costs.specs.Costs.{HaveGroups}
 
 -- the levels behind so many
@@ -62,6 +64,9 @@ none_some q h = absurd (apart h)
   where
     apart : None ≡ Some q → ⊥
     apart e = cc
+
+before_or_behind : (k n : ℕ) → (k < n) ⊎ (n ≤ k)
+before_or_behind k n = grind arith
 
 module _ (a : Arithmetic) (s : Statement) (formats : List (List FormatLevel)) (storages : ℕ → Storage) (inputs : Inputs) where
   module _ (k : ℕ) (access : Access) (is : slice_get s.accesses k ≡ Some access) (has : HasStorage a formats storages inputs access) where
@@ -122,3 +127,15 @@ module _ (a : Arithmetic) (s : Statement) (formats : List (List FormatLevel)) (s
   pub packed_groups : Each (HasStorage a formats storages inputs) s.accesses → HaveGroups s formats (stored_of s storages)
   packed_groups each k depth point p below within many h =
       let found = of_number s.accesses k each below in groups_here k found.0 found.1 found.2 depth point p within h
+
+  -- a sum has no level, so it is enough that the other accesses have storages
+  pub real_groups : HasSums s formats
+      → ((k : ℕ) → k < first_sum s
+      → (access : Access) × (slice_get s.accesses k ≡ Some access) × HasStorage a formats storages inputs access)
+      → HaveGroups s formats (stored_of s storages)
+  real_groups sums each k depth point p below within many h = by (before_or_behind k (first_sum s))
+    where
+      by : (k < first_sum s) ⊎ (first_sum s ≤ k) → Each (λ (e : Entry). e.child.lo < e.child.hi)
+          ((stored_of s storages).entries k (suc depth) p)
+      by (inl before) = let found = each k before in groups_here k found.0 found.1 found.2 depth point p within h
+      by (inr behind) = let none = none_behind s formats sums k behind in absurd (omega (arith, none, within))

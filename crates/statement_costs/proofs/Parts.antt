@@ -62,46 +62,65 @@ either false b c f g h = g h
 never : {A : Type 0} → false ≡ true → A
 never h = absurd (cc h)
 
--- where each access that is present by the first is by the second
-module _ (Q P : ℕ → Bool) (less : (k : ℕ) → Q k ≡ true → P k ≡ true) where
-  mutual
-    pub less_remains : (e : Expr) → remains Q e ≡ true → remains P e ≡ true
-    less_remains (Num n) h = refl
-    less_remains (AccessOf k) h = less k h
-    less_remains (Binary' o p e q f) h =
-        there_more o (remains_in Q e) (remains_in Q f) (remains_in P e) (remains_in P f) (less_remains_in e) (less_remains_in f) h
-    less_remains (Neg' p e) h = less_remains_in e h
+-- where each access that stands there and is present by the first is by the second
+module _ (Q P : ℕ → Bool) where
+  abbrev IsLess : Expr → Type 0
+  IsLess e = (k : ℕ) → has_access e k ≡ true → Q k ≡ true → P k ≡ true
 
-    less_remains_in : {m : _} (row : Row_of-Expr m) → remains_in Q row ≡ true → remains_in P row ≡ true
-    less_remains_in end_of-Expr h = h
-    less_remains_in (more_of-Expr e rest) h = less_remains e h
+  abbrev IsLess_in : {m : _} → Row_of-Expr m → Type 0
+  IsLess_in row = (k : ℕ) → has_access_in row k ≡ true → Q k ≡ true → P k ≡ true
+
+  left_less : {m n : _} (e : Row_of-Expr m) (f : Row_of-Expr n)
+      → ((k : ℕ) → (has_access_in e k || has_access_in f k) ≡ true → Q k ≡ true → P k ≡ true) → IsLess_in e
+  left_less e f c k is = c k (or_left (has_access_in e k) (has_access_in f k) is)
+
+  right_less : {m n : _} (e : Row_of-Expr m) (f : Row_of-Expr n)
+      → ((k : ℕ) → (has_access_in e k || has_access_in f k) ≡ true → Q k ≡ true → P k ≡ true) → IsLess_in f
+  right_less e f c k is = c k (or_right (has_access_in e k) (has_access_in f k) is)
 
   mutual
-    pub less_live : (j : ℕ) (e : Expr) → is_live Q e j ≡ true → is_live P e j ≡ true
-    less_live j (Num n) h = h
-    less_live j (AccessOf k) h = and_more (nat_eq k j) (Q k) (nat_eq k j) (P k) (λ is. is) (less k) h
-    less_live j (Binary' o p e q f) h =
+    pub less_remains : (e : Expr) → IsLess e → remains Q e ≡ true → remains P e ≡ true
+    less_remains (Num n) c h = refl
+    less_remains (AccessOf k) c h = c k (self k) h
+    less_remains (Binary' o p e q f) c h =
+        there_more o (remains_in Q e) (remains_in Q f) (remains_in P e) (remains_in P f) (less_remains_in e (left_less e f c))
+        (less_remains_in f (right_less e f c)) h
+    less_remains (Neg' p e) c h = less_remains_in e c h
+
+    less_remains_in : {m : _} (row : Row_of-Expr m) → IsLess_in row → remains_in Q row ≡ true → remains_in P row ≡ true
+    less_remains_in end_of-Expr c h = h
+    less_remains_in (more_of-Expr e rest) c h = less_remains e c h
+
+  mutual
+    pub less_live : (j : ℕ) (e : Expr) → IsLess e → is_live Q e j ≡ true → is_live P e j ≡ true
+    less_live j (Num n) c h = h
+    less_live j (AccessOf k) c h = and_more (nat_eq k j) (Q k) (nat_eq k j) (P k) (λ is. is) (c k (self k)) h
+    less_live j (Binary' o p e q f) c h =
         and_more (is_there o (remains_in Q e) (remains_in Q f)) (is_live_in Q e j || is_live_in Q f j)
         (is_there o (remains_in P e) (remains_in P f)) (is_live_in P e j || is_live_in P f j)
-        (there_more o (remains_in Q e) (remains_in Q f) (remains_in P e) (remains_in P f) (less_remains_in e) (less_remains_in f))
-        (or_more (is_live_in Q e j) (is_live_in Q f j) (is_live_in P e j) (is_live_in P f j) (less_live_in j e) (less_live_in j f)) h
-    less_live j (Neg' p e) h = less_live_in j e h
+        (there_more o (remains_in Q e) (remains_in Q f) (remains_in P e) (remains_in P f) (less_remains_in e (left_less e f c))
+        (less_remains_in f (right_less e f c)))
+        (or_more (is_live_in Q e j) (is_live_in Q f j) (is_live_in P e j) (is_live_in P f j) (less_live_in j e (left_less e f c))
+        (less_live_in j f (right_less e f c))) h
+    less_live j (Neg' p e) c h = less_live_in j e c h
 
-    less_live_in : {m : _} (j : ℕ) (row : Row_of-Expr m) → is_live_in Q row j ≡ true → is_live_in P row j ≡ true
-    less_live_in j end_of-Expr h = h
-    less_live_in j (more_of-Expr e rest) h = less_live j e h
+    less_live_in : {m : _} (j : ℕ) (row : Row_of-Expr m) → IsLess_in row → is_live_in Q row j ≡ true → is_live_in P row j ≡ true
+    less_live_in j end_of-Expr c h = h
+    less_live_in j (more_of-Expr e rest) c h = less_live j e c h
 
   mutual
-    pub less_full : (F : ℕ → Bool) (e : Expr) → is_full F Q e ≡ true → is_full F P e ≡ true
-    less_full F (Num n) h = refl
-    less_full F (AccessOf k) h = and_more (F k) (Q k) (F k) (P k) (λ is. is) (less k) h
-    less_full F (Binary' o p e q f) h =
-        there_more o (is_full_in F Q e) (is_full_in F Q f) (is_full_in F P e) (is_full_in F P f) (less_full_in F e) (less_full_in F f) h
-    less_full F (Neg' p e) h = less_full_in F e h
+    pub less_full : (F : ℕ → Bool) (e : Expr) → IsLess e → is_full F Q e ≡ true → is_full F P e ≡ true
+    less_full F (Num n) c h = refl
+    less_full F (AccessOf k) c h = and_more (F k) (Q k) (F k) (P k) (λ is. is) (c k (self k)) h
+    less_full F (Binary' o p e q f) c h =
+        there_more o (is_full_in F Q e) (is_full_in F Q f) (is_full_in F P e) (is_full_in F P f) (less_full_in F e (left_less e f c))
+        (less_full_in F f (right_less e f c)) h
+    less_full F (Neg' p e) c h = less_full_in F e c h
 
-    less_full_in : {m : _} (F : ℕ → Bool) (row : Row_of-Expr m) → is_full_in F Q row ≡ true → is_full_in F P row ≡ true
-    less_full_in F end_of-Expr h = h
-    less_full_in F (more_of-Expr e rest) h = less_full F e h
+    less_full_in : {m : _} (F : ℕ → Bool) (row : Row_of-Expr m) → IsLess_in row → is_full_in F Q row ≡ true
+        → is_full_in F P row ≡ true
+    less_full_in F end_of-Expr c h = h
+    less_full_in F (more_of-Expr e rest) c h = less_full F e c h
 
 mutual
   -- a part that is full remains
@@ -242,6 +261,20 @@ some_more f g [] c h = h
 some_more f g (n ∷ nests) c h =
     or_more (f n.term.expr) (some_term f nests) (g n.term.expr) (some_term g nests) (c n.term.expr) (some_more f g nests c) h
 
+-- whether the access stands in some term
+abbrev pub some_uses : List Nest → ℕ → Bool
+some_uses nests k = some_term (λ e. has_access e k) nests
+
+-- by what is so of each access that stands in some of them
+pub some_under : (R : ℕ → Type 0) (f g : Expr → Bool)
+    → ((e : Expr) → ((k : ℕ) → has_access e k ≡ true → R k) → f e ≡ true → g e ≡ true) → (nests : List Nest)
+    → ((k : ℕ) → some_uses nests k ≡ true → R k) → some_term f nests ≡ true → some_term g nests ≡ true
+some_under R f g more [] c h = h
+some_under R f g more (n ∷ nests) c h =
+    or_more (f n.term.expr) (some_term f nests) (g n.term.expr) (some_term g nests)
+    (more n.term.expr (λ k is. c k (or_left (has_access n.term.expr k) (some_uses nests k) is)))
+    (some_under R f g more nests (λ k is. c k (or_right (has_access n.term.expr k) (some_uses nests k) is))) h
+
 pub some_inside : (f : Expr → Bool) (v : ℕ) (nests : List Nest) → some_term f (map (inside v) nests) ≡ some_term f nests
 some_inside f v [] = refl
 some_inside f v (n ∷ nests) = ap (λ b. f n.term.expr || b) (some_inside f v nests)
@@ -267,31 +300,51 @@ module _ (P Q : ℕ → Bool) where
       (more n.term.expr (λ k is. c k (or_left (is_live P n.term.expr k) (some_term (λ e. is_live P e k) nests) is)))
       (some_live f g more nests (λ k is. c k (or_right (is_live P n.term.expr k) (some_term (λ e. is_live P e k) nests) is))) h
 
+  abbrev pub AreLess : List Nest → Type 0
+  AreLess nests = (k : ℕ) → some_uses nests k ≡ true → Q k ≡ true → P k ≡ true
+
+  pub some_less : (f g : Expr → Bool) → ((e : Expr) → ((k : ℕ) → has_access e k ≡ true → Q k ≡ true → P k ≡ true)
+      → f e ≡ true → g e ≡ true) → (nests : List Nest) → AreLess nests → some_term f nests ≡ true → some_term g nests ≡ true
+  some_less f g more nests less = some_under (λ k. Q k ≡ true → P k ≡ true) f g more nests less
+
   -- accesses that stand in no part may be left out
-  module _ (less : (k : ℕ) → Q k ≡ true → P k ≡ true) (nests : List Nest) (live : AreLive nests) where
+  module _ (nests : List Nest) (less : AreLess nests) (live : AreLive nests) where
     pub remains_same : some_term (remains Q) nests ≡ some_term (remains P) nests
     remains_same = same_if (some_term (remains Q) nests) (some_term (remains P) nests)
-        (some_more (remains Q) (remains P) nests (less_remains Q P less)) (some_live (remains P) (remains Q) (more_remains P Q) nests live)
+        (some_less (remains Q) (remains P) (less_remains Q P) nests less) (some_live (remains P) (remains Q) (more_remains P Q) nests live)
 
     pub live_same : (j : ℕ) → some_term (λ e. is_live Q e j) nests ≡ some_term (λ e. is_live P e j) nests
     live_same j = same_if (some_term (λ e. is_live Q e j) nests) (some_term (λ e. is_live P e j) nests)
-        (some_more (λ e. is_live Q e j) (λ e. is_live P e j) nests (less_live Q P less j))
+        (some_less (λ e. is_live Q e j) (λ e. is_live P e j) (less_live Q P j) nests less)
         (some_live (λ e. is_live P e j) (λ e. is_live Q e j) (more_live P Q j) nests live)
 
     pub full_same : (F : ℕ → Bool) → some_term (is_full F Q) nests ≡ some_term (is_full F P) nests
     full_same F = same_if (some_term (is_full F Q) nests) (some_term (is_full F P) nests)
-        (some_more (is_full F Q) (is_full F P) nests (less_full Q P less F))
+        (some_less (is_full F Q) (is_full F P) (less_full Q P F) nests less)
         (some_live (is_full F P) (is_full F Q) (more_full P Q F) nests live)
+
+-- accesses that are there by both tests
+module _ (P Q : ℕ → Bool) (nests : List Nest) (same : (k : ℕ) → some_uses nests k ≡ true → P k ≡ Q k) where
+  pub alike_remains : some_term (remains P) nests ≡ some_term (remains Q) nests
+  alike_remains = same_if (some_term (remains P) nests) (some_term (remains Q) nests)
+      (some_less Q P (remains P) (remains Q) (less_remains P Q) nests (λ k is h. sym (same k is) ∙ h))
+      (some_less P Q (remains Q) (remains P) (less_remains Q P) nests (λ k is h. same k is ∙ h))
+
+  pub alike_live : (j : ℕ) → some_term (λ e. is_live P e j) nests ≡ some_term (λ e. is_live Q e j) nests
+  alike_live j = same_if (some_term (λ e. is_live P e j) nests) (some_term (λ e. is_live Q e j) nests)
+      (some_less Q P (λ e. is_live P e j) (λ e. is_live Q e j) (less_live P Q j) nests (λ k is h. sym (same k is) ∙ h))
+      (some_less P Q (λ e. is_live Q e j) (λ e. is_live P e j) (less_live Q P j) nests (λ k is h. same k is ∙ h))
+
+  pub alike_full : (F : ℕ → Bool) → some_term (is_full F P) nests ≡ some_term (is_full F Q) nests
+  alike_full F = same_if (some_term (is_full F P) nests) (some_term (is_full F Q) nests)
+      (some_less Q P (is_full F P) (is_full F Q) (less_full P Q F) nests (λ k is h. sym (same k is) ∙ h))
+      (some_less P Q (is_full F Q) (is_full F P) (less_full Q P F) nests (λ k is h. same k is ∙ h))
 
 pub some_present : (P : ℕ → Bool) (k : ℕ) (nests : List Nest) → some_term (λ e. is_live P e k) nests ≡ true → P k ≡ true
 some_present P k [] h = never h
 some_present P k (n ∷ nests) h =
     either (is_live P n.term.expr k) (some_term (λ e. is_live P e k) nests) (P k) (live_present P n.term.expr k)
     (some_present P k nests) h
-
--- whether the access stands in some term
-abbrev pub some_uses : List Nest → ℕ → Bool
-some_uses nests k = some_term (λ e. has_access e k) nests
 
 pub full_other : (F G P : ℕ → Bool) (nests : List Nest) → ((k : ℕ) → some_uses nests k ≡ true → F k ≡ G k)
     → some_term (is_full F P) nests ≡ some_term (is_full G P) nests

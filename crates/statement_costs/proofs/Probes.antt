@@ -4,11 +4,11 @@ use Rattle.std.proofs.Common.{◌∙◌, ap, arith}
 use Rattle.std.proofs.Math.Nat.{add-mul, mul-add}
 use Rattle.lists.specs.Each.{Each}
 use Rattle.loop_code.specs.declared.loops.Seek.{Seek}
-use Rattle.loop_code.specs.declared.loops.LoopCode.{LoopCode, Add, Both', Loop', Row_of-LoopCode, end_of-LoopCode, more_of-LoopCode}
+use Rattle.loop_code.specs.declared.loops.LoopCode.{LoopCode, Add, Both', Loop', Sum', Row_of-LoopCode, end_of-LoopCode, more_of-LoopCode}
 use Rattle.loop_code.specs.Loops.{Layout, Stored, Env, moved}
-use Rattle.loop_code.specs.Parts.{here, remains_below_in}
+use Rattle.loop_code.specs.Parts.{given, here, is_live_below_in, remains_below_in}
 use Rattle.loop_code.specs.Places.{AreSeeks, IsWellPlaced, IsWellPlaced_in, depth_after}
-use Rattle.loop_code.specs.Turns.{count_below, merge_turns, merge_turns_in, pruned_in, turns_at}
+use Rattle.loop_code.specs.Turns.{count_below, merge_turns, merge_turns_in, pruned_in, summed, turns_at}
 use Rattle.statement_costs.specs.Probes.{probes, probes_in}
 use Rattle.statement_costs.specs.Slots.{slots_here}
 use Rattle.statement_costs.proofs.Lengths.{seeks_most}
@@ -89,6 +89,15 @@ module _ (layout : Layout) (count : ℕ) (stored : Stored) (ranges : ℕ → ℕ
         let sum = mul-add (count * width) (merge_turns_in layout stored ranges f env) (merge_turns_in layout stored ranges g env) in
         omega (arith, a, b, sum)
     probes_within (Add t) bound depth placed env = omega arith
+    probes_within (Sum' k p inside q body) bound depth placed env =
+        let e = summed layout stored ranges k inside env in
+        let live = is_live_below_in (given (here env) k (remains_below_in (here env) inside)) body k in
+        let own = where_times live (count * width) (probes_in layout stored ranges of_level inside env)
+        (merge_turns_in layout stored ranges inside env) (probes_within_in inside bound depth placed.2 env) in
+        let rest = probes_within_in body bound depth placed.3 e in
+        let sum = mul-add (count * width) (if live then merge_turns_in layout stored ranges inside env else 0)
+        (merge_turns_in layout stored ranges body e) in
+        omega (arith, own, rest, sum)
 
     pub probes_within_in : {m : _} (row : Row_of-LoopCode m) (bound : List ℕ) (depth : ℕ → ℕ)
         → IsWellPlaced_in layout count bound depth row → (env : Env)

@@ -61,31 +61,33 @@ module _ (layout : Layout) (stored : Stored) where
       by (inl m) more = more m
       by (inr same) more = ap (λ n. is_some (path_span layout stored k n p)) same ∙ h
 
-  -- at these coordinates the accesses of L are so deep, and the others aren't present
-  pub record AreAt (L : ℕ → Bool) (depth : ℕ → ℕ) (coordinates : ℕ → ℕ) (env : Env) : Type 0 where
+  -- at these coordinates, of the accesses that are asked for, those of L are so deep, and the others aren't present
+  pub record AreAt (asked L : ℕ → Bool) (depth : ℕ → ℕ) (coordinates : ℕ → ℕ) (env : Env) : Type 0 where
     pub point : env.point ≡ coordinates
-    pub cursor : (k : ℕ) → env.cursor k ≡ (if L k then path_span layout stored k (depth k) coordinates else None)
+    pub cursor : (k : ℕ) → asked k ≡ true
+        → env.cursor k ≡ (if L k then path_span layout stored k (depth k) coordinates else None)
 
-  level_at : (L : ℕ → Bool) (depth : ℕ → ℕ) (point : ℕ → ℕ) (env : Env) (k level : ℕ) → level ≡ suc (depth k)
-      → AreAt L depth point env → AreAt L (deeper depth k) point (at_cursor env k (sought layout stored env k level))
-  level_at L depth point env k level is h = record {
+  level_at : (asked L : ℕ → Bool) (depth : ℕ → ℕ) (point : ℕ → ℕ) (env : Env) (k level : ℕ) → level ≡ suc (depth k)
+      → AreAt asked L depth point env → AreAt asked L (deeper depth k) point (at_cursor env k (sought layout stored env k level))
+  level_at asked L depth point env k level is h = record {
     point = h.point;
-    cursor = λ j. elim (eqb_tells k j) [
+    cursor = λ j wanted. elim (eqb_tells k j) [
       | inl same ↦ (
           subst (λ i. (if nat_eq k j then sought layout stored env k level else env.cursor j)
           ≡ (if L i then path_span layout stored i (deeper depth k i) point else None)) same.1
           (ap (λ b. if b then sought layout stored env k level else env.cursor j) same.0
-          ∙ here
+          ∙ here (subst (λ i. asked i ≡ true) (sym same.1) wanted)
           ∙ ap (λ b. if L k then path_span layout stored k (if b then suc (depth k) else depth k) point else None) (sym (self k))))
       | inr other ↦ (
-          ap (λ b. if b then sought layout stored env k level else env.cursor j) other.0 ∙ h.cursor j
+          ap (λ b. if b then sought layout stored env k level else env.cursor j) other.0 ∙ h.cursor j wanted
           ∙ ap (λ b. if L j then path_span layout stored j (if b then suc (depth k) else depth j) point else None) (sym other.0))
     ];
   }
     where
-      here : sought layout stored env k level ≡ (if L k then path_span layout stored k (suc (depth k)) point else None)
-      here =
-          ap (λ o. follow o (λ p. child_of (stored.entries k level p) (env.point (layout.variable k level)))) (h.cursor k)
+      here : asked k ≡ true
+          → sought layout stored env k level ≡ (if L k then path_span layout stored k (suc (depth k)) point else None)
+      here wanted =
+          ap (λ o. follow o (λ p. child_of (stored.entries k level p) (env.point (layout.variable k level)))) (h.cursor k wanted)
           ∙ ap (λ (f : ℕ → ℕ). follow (if L k then path_span layout stored k (depth k) point else None)
           (λ p. child_of (stored.entries k level p) (f (layout.variable k level)))) h.point
           ∙ ap (λ n. follow (if L k then path_span layout stored k (depth k) point else None)
@@ -99,16 +101,16 @@ module _ (layout : Layout) (stored : Stored) where
           by false = refl
 
   -- behind the seeks of a loop
-  pub found_at : (count v : ℕ) (bound : List ℕ) (above : ℕ → ℕ) (L : ℕ → Bool) (point : ℕ → ℕ) (depth : ℕ → ℕ) (seeks : List Seek)
-      (env : Env)
-      → AreSeeks layout count v bound above depth seeks → AreAt L depth point env
-      → AreAt L (depth_after seeks depth) point (found layout stored seeks env)
-  found_at count v bound above L point depth [] env are h = h
-  found_at count v bound above L point depth (x ∷ seeks) env are h =
-      found_at count v bound above L point (deeper depth x.access) seeks
+  pub found_at : (count v : ℕ) (bound : List ℕ) (above : ℕ → ℕ) (asked L : ℕ → Bool) (point : ℕ → ℕ) (depth : ℕ → ℕ)
+      (seeks : List Seek) (env : Env)
+      → AreSeeks layout count v bound above depth seeks → AreAt asked L depth point env
+      → AreAt asked L (depth_after seeks depth) point (found layout stored seeks env)
+  found_at count v bound above asked L point depth [] env are h = h
+  found_at count v bound above asked L point depth (x ∷ seeks) env are h =
+      found_at count v bound above asked L point (deeper depth x.access) seeks
       (at_cursor env x.access (sought layout stored env x.access x.level))
       are.1
-      (level_at L depth point env x.access x.level are.0.next h)
+      (level_at asked L depth point env x.access x.level are.0.next h)
 
 -- the next variable of an access is that of the next level
 next_is : (bound ws : List ℕ) (v : ℕ) → reached bound ws < length ws → slice_index_or ws (reached bound ws) 0 ≡ v

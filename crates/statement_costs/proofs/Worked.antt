@@ -1,12 +1,18 @@
 -- What the cost comes to where it was worked out by hand.
 use Rattle.std.specs.Prelude.{◌≡◌, [], ◌∷◌, refl}
 use denote.Hole.Carrier.{hidden}
+use Rattle.index_notation.specs.declared.operator.Operator.TheVariants as op
+use Rattle.index_notation.specs.declared.syntax.Expr.{Access as AccessOf, Binary, Num}
 use Rattle.index_notation.specs.declared.syntax.Expr.TheBlock.{hidden-the_row-Expr-0}
 use Rattle.level_core.specs.declared.letter.Letter.TheVariants.{Compressed, Dense}
+use Rattle.loop_code.specs.declared.loops.LoopCode.TheBlock.{hidden-the_row-LoopCode-0}
+use Rattle.loop_code.specs.Loops.{start}
+use Rattle.loop_code.specs.Turns.{cost}
+use Rattle.lowering.specs.Layouts.{layout_of}
 use Rattle.statement_costs.specs.Costs.{statement_cost, statement_repeats}
 use Rattle.statement_costs.specs.Slots.{statement_slots}
 use Rattle.statement_costs.specs.Worked.{alike, list_formats, list_stored, product, rows_formats, rows_stored, sum, sum_formats}
-use Rattle.statement_costs.specs.Worked.{sum_stored}
+use Rattle.statement_costs.specs.Worked.{nested, nested_formats, nested_loops, nested_stored, sum_stored}
 
 -- a matrix compressed in two rows with one stored coordinate each, times a dense vector: a turn for each row, and one for each
 -- coordinate
@@ -42,3 +48,25 @@ cost_of_a_sum = refl
 pub cost_of_a_dense_sum : statement_cost sum (sum_formats Dense) (0 ∷ []) sum_stored (alike 9) ≡ 9
 unfolding hidden-the_row-Expr-0 hidden
 cost_of_a_dense_sum = refl
+
+-- a vector of one coordinate, times the sum over the row there, which has one coordinate too: a turn for each, and none for the other row
+pub cost_of_a_nested_sum : statement_cost (nested (AccessOf 1)) nested_formats (0 ∷ 1 ∷ []) nested_stored (alike 2) ≡ 2
+unfolding hidden-the_row-Expr-0 hidden
+cost_of_a_nested_sum = refl
+
+-- and where a number is added inside the sum goes over the whole row
+pub cost_of_a_full_sum : statement_cost (nested (Binary op.Add (AccessOf 1) (Num 1))) nested_formats (0 ∷ 1 ∷ []) nested_stored
+    (alike 2) ≡ 3
+unfolding hidden-the_row-Expr-0 hidden
+cost_of_a_full_sum = refl
+
+-- loops that start the sum inside that of the vector cost just as much
+pub loops_of_a_nested_sum : cost (layout_of (nested (AccessOf 1)) nested_formats) nested_stored (alike 2)
+    (nested_loops (AccessOf 1)) start ≡ 2
+unfolding hidden-the_row-Expr-0 hidden-the_row-LoopCode-0 hidden
+loops_of_a_nested_sum = refl
+
+pub loops_of_a_full_sum : cost (layout_of (nested (Binary op.Add (AccessOf 1) (Num 1))) nested_formats) nested_stored (alike 2)
+    (nested_loops (Binary op.Add (AccessOf 1) (Num 1))) start ≡ 3
+unfolding hidden-the_row-Expr-0 hidden-the_row-LoopCode-0 hidden
+loops_of_a_full_sum = refl

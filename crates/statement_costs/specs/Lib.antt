@@ -1,4 +1,5 @@
 pub mod Costs
+pub mod Plain
 pub mod Probes
 pub mod Slots
 pub mod Worked

@@ -1,19 +1,18 @@
 -- The slots of a statement, told by its groups of terms alone, and of loops. As in Chou and others, 'Format Abstraction for Sparse Tensor
 -- Algebra Compilers' (OOPSLA 2018): a level that has its coordinates in no order has to be gathered and sorted before a loop can go through
 -- them beside others, and each position of the segment is looked at once.
-use Rattle.std.specs.Prelude.{ℕ, ◌+◌, if◌then◌else◌, List, [], ◌∷◌, map, slice_get}
+use Rattle.std.specs.Prelude.{ℕ, ◌+◌, if◌then◌else◌, List, [], ◌∷◌, slice_get}
 use Rattle.level_core.specs.Kinds.{properties}
 use Rattle.format_spec.specs.declared.format.FormatLevel.{FormatLevel}
 use Rattle.index_notation.specs.declared.syntax.Statement.{Statement}
-use Rattle.expr_terms.specs.Terms.{terms}
-use Rattle.concrete_notation.specs.Nests.{Nest, nest_of}
-use Rattle.loop_code.specs.declared.loops.LoopCode.{LoopCode, Add, Both', Loop', Row_of-LoopCode, end_of-LoopCode, more_of-LoopCode}
+use Rattle.concrete_notation.specs.Nests.{Nest}
+use Rattle.loop_code.specs.declared.loops.LoopCode.{LoopCode, Add, Both', Loop', Sum', Row_of-LoopCode, end_of-LoopCode, more_of-LoopCode}
 use Rattle.loop_code.specs.declared.loops.Seek.{Seek}
 use Rattle.loop_code.specs.Loops.{Layout, Stored, Env, moved}
 use Rattle.loop_code.specs.Parts.{here}
-use Rattle.loop_code.specs.Turns.{count_below, if_remains}
+use Rattle.loop_code.specs.Turns.{count_below, if_live, if_remains, summed}
 use Rattle.lowering.specs.Layouts.{letter_at, levels_of}
-use Rattle.statement_costs.specs.Costs.{next_level, sum_walked, total}
+use Rattle.statement_costs.specs.Costs.{next_level, sum_walked, whole_total}
 
 module _ (s : Statement) (formats : List (List FormatLevel)) (widths : ℕ → ℕ → ℕ) where
   -- the slots of an access's level: its width, where it has its coordinates in no order
@@ -22,14 +21,14 @@ module _ (s : Statement) (formats : List (List FormatLevel)) (widths : ℕ → �
       if (properties (letter_at (levels_of formats (slice_get s.accesses k)) level)).ordered then 0 else widths k level
 
   -- the slots of a group's loop over a variable
-  abbrev pub group_slots : Stored → List Nest → List ℕ → (ℕ → ℕ) → ℕ → ℕ
-  group_slots stored group bound point v =
-      sum_walked s formats stored (λ k. level_slots k (next_level s formats bound k)) group bound point v
+  abbrev pub group_slots : Stored → (ranges : ℕ → ℕ) → List Nest → List ℕ → (ℕ → ℕ) → ℕ → ℕ
+  group_slots stored ranges group bound point v =
+      sum_walked s formats stored ranges (λ k. level_slots k (next_level s formats bound k)) group bound point v
 
 -- over all groups of a statement in a loop order
 abbrev pub statement_slots : Statement → List (List FormatLevel) → List ℕ → Stored → (widths : ℕ → ℕ → ℕ) → (ranges : ℕ → ℕ) → ℕ
 statement_slots s formats order stored widths ranges =
-    total s formats stored ranges (group_slots s formats widths stored) order (map (nest_of s order) (terms s.expr)) [] (λ v. 0)
+    whole_total s formats stored ranges (group_slots s formats widths stored ranges) order
 
 -- the slots of the levels that are gone through at a loop, of the accesses that are present
 abbrev pub slots_here : (ℕ → ℕ → ℕ) → List Seek → Env → ℕ
@@ -46,6 +45,8 @@ module _ (layout : Layout) (stored : Stored) (ranges : ℕ → ℕ) (of_level : 
         (λ e. slots_here of_level seeks e + count_below (ranges v) (λ x. slots_in body (moved layout stored v seeks e x)))
     slots (Both' p f q g) env = slots_in f env + slots_in g env
     slots (Add t) env = 0
+    slots (Sum' k p inside q body) env =
+        if_live layout stored ranges k inside body env (slots_in inside env) + slots_in body (summed layout stored ranges k inside env)
 
     -- the same of the one loop code in a box
     pub slots_in : {m : _} → Row_of-LoopCode m → Env → ℕ

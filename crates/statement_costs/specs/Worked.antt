@@ -1,5 +1,6 @@
--- Worked costs: of a product of a matrix and a vector, y(i) = A(i,j) * x(j), and of a sum of vectors, y(i) = a(i) + b(i).
-use Rattle.std.specs.Prelude.{false, ℕ, ◌+◌, nat_eq, if◌then◌else◌, List, [], ◌∷◌}
+-- Worked costs: of a product of a matrix and a vector, y(i) = A(i,j) * x(j), of a sum of vectors, y(i) = a(i) + b(i), and of a vector times
+-- sums over the rows of a matrix, y(i) = b(i) * sum(j, A(i,j)) and y(i) = b(i) * sum(j, A(i,j) + 1).
+use Rattle.std.specs.Prelude.{false, true, ℕ, ◌+◌, nat_eq, if◌then◌else◌, List, [], ◌∷◌}
 use Rattle.level_core.specs.declared.span.Span.{Span}
 use Rattle.level_core.specs.declared.span.Entry.{Entry}
 use Rattle.level_core.specs.Entries.{one, span}
@@ -8,9 +9,11 @@ use Rattle.level_core.specs.declared.letter.Letter.TheVariants.{Dense, Compresse
 use Rattle.format_spec.specs.declared.format.FormatLevel.{FormatLevel}
 use Rattle.index_notation.specs.declared.operator.Operator.TheVariants as op
 use Rattle.index_notation.specs.declared.syntax.Access.{Access}
-use Rattle.index_notation.specs.declared.syntax.Expr.{Access as AccessOf, Binary}
+use Rattle.index_notation.specs.declared.syntax.Expr.{Expr, Access as AccessOf, Binary}
 use Rattle.index_notation.specs.declared.syntax.Name.{Name}
 use Rattle.index_notation.specs.declared.syntax.Statement.{Statement}
+use Rattle.expr_terms.specs.Terms.{plain_term}
+use Rattle.loop_code.specs.declared.loops.LoopCode.{LoopCode, Loop, Sum, Add}
 use Rattle.loop_code.specs.Loops.{Stored}
 
 abbrev no_name : Name
@@ -90,3 +93,35 @@ sum_stored = record {
   entries = λ k depth p. if nat_eq k 0 then (entry 0 (one 0) ∷ entry 2 (one 1) ∷ []) else (entry 2 (one 0) ∷ []);
   word = λ k pos. 1;
 }
+
+-- the vector times a sum over the columns of the matrix, which is read as an access of its own behind those of the two
+abbrev pub nested : Expr → Statement
+nested inside = record {
+  tensors = no_name ∷ no_name ∷ no_name ∷ [];
+  vars = no_name ∷ no_name ∷ [];
+  left = access 0 (0 ∷ []);
+  accumulate = false;
+  accesses = access 1 (0 ∷ []) ∷ access 2 (0 ∷ 1 ∷ []) ∷ access 3 (0 ∷ []) ∷ [];
+  sums = record { var = 1; inside = inside } ∷ [];
+  expr = Binary op.Mul (AccessOf 0) (AccessOf 2);
+}
+
+-- the vector is compressed, with one coordinate stored, and the matrix is compressed in rows, as above
+abbrev pub nested_formats : List (List FormatLevel)
+nested_formats = (level Dense 0 ∷ []) ∷ (level Compressed 0 ∷ []) ∷ (level Dense 0 ∷ level Compressed 1 ∷ []) ∷ []
+
+abbrev pub nested_stored : Stored
+nested_stored = record {
+  entries = λ k depth p.
+      if nat_eq k 0 then (entry 1 (one 0) ∷ []) else (if nat_eq depth 1 then two_below p else (if nat_eq p.lo 0 then (entry 1 (one 0) ∷ [])
+      else (entry 0 (one 1) ∷ [])));
+  word = λ k pos. if nat_eq k 2 then pos else 1;
+}
+
+-- a loop over the vector's coordinates, at each of which the sum is computed and then read
+abbrev pub nested_loops : Expr → LoopCode
+nested_loops inside =
+    Loop 0
+    (record { access = 0; level = 1; full = false } ∷ record { access = 1; level = 1; full = true } ∷ [])
+    (Sum 2 (Loop 1 (record { access = 1; level = 2; full = false } ∷ []) (Add (plain_term inside)))
+    (Add (plain_term (Binary op.Mul (AccessOf 0) (AccessOf 2)))))

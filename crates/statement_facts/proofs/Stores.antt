@@ -41,7 +41,7 @@ operand_at s formats ranges first (o ∷ os) arrays (suc i) l are held =
 
 -- the levels of a tensor of the right side, on a store
 pub levels_held : (s : Statement) (formats : List (List FormatLevel)) (nothing : ℕ) (store : Store) (arrays : Arrays) (tensor : ℕ)
-    → IsStoreOf s formats store → IsGiven nothing store arrays → 0 < tensor → tensor < length s.tensors
+    → IsStoreOf s formats store → IsGiven nothing store arrays → 0 < tensor → tensor + length s.sums < length s.tensors
     → HeldLevels s tensor 1 (format_of formats tensor) arrays
 levels_held s formats nothing store arrays zero of given some within = absurd (omega (arith, some))
 levels_held s formats nothing store arrays (suc i) of given some within =

@@ -1,5 +1,5 @@
 -- When facts of arrays are true of every store of a statement and formats.
-use Rattle.std.specs.Prelude.{◌≡◌, ℕ, ◌<◌, List, [], ◌∷◌, map, length, All, Option, None, Some, slice_index}
+use Rattle.std.specs.Prelude.{◌≡◌, ℕ, ◌+◌, ◌<◌, List, [], ◌∷◌, map, length, All, Option, None, Some, slice_index}
 use Rattle.lists.specs.Each.{Each}
 use Rattle.kernel_code.specs.declared.syntax.Arr.TheVariants.{Range}
 use Rattle.kernel_code.specs.declared.syntax.Kernel.{Kernel}
@@ -36,10 +36,11 @@ abbrev pub AreTrueOfLevels : Statement → ℕ → ℕ → List FormatLevel → 
 AreTrueOfLevels s tensor number format facts =
     (arrays : Arrays) → HeldLevels s tensor number format arrays → Each (IsFact arrays) facts
 
--- so it is of a tensor of this format, but the result
+-- so it is of a tensor of this format, but the result and those that stand for nested sums
 abbrev pub IsTrueOfTensor : Statement → ℕ → List FormatLevel → List StoreFact → Type 0
 IsTrueOfTensor s tensor format facts =
-    (arrays : Arrays) → (0 < tensor → tensor < length s.tensors → HeldLevels s tensor 1 format arrays) → Each (IsFact arrays) facts
+    (arrays : Arrays) → (0 < tensor → tensor + length s.sums < length s.tensors → HeldLevels s tensor 1 format arrays)
+    → Each (IsFact arrays) facts
 
 -- so it is of operands, on every store
 abbrev pub AreTrueOfOperands : Statement → List (List FormatLevel) → List StoreFact → Type 0

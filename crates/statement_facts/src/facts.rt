@@ -85,7 +85,8 @@ fn facts_of_tensor(
 ) -> Result<Items<StoreFact>, AllocError>
     ensures { IfOk result (IsTrueOfTensor statement.now tensor format.now) }
 {
-    if tensor == 0 || tensor >= statement.tensors.len() {
+    let sums = statement.sums.len();
+    if tensor == 0 || tensor >= statement.tensors.len().saturating_sub(sums) {
         return Ok(Items::new(alloc));
     }
     let facts = facts_of_levels(alloc, statement, tensor, 1, format.levels())?;

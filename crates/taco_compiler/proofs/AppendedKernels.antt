@@ -1,9 +1,9 @@
 -- A kernel whose code appends the rows of a statement's loops to its result in place is compiled where the statement calls for no
 -- workspace: it is right and sound, its loops turn no more often than the statement costs, and it has no rows to go over again.
-use Rattle.std.specs.Prelude.{◌≡◌, ℕ, zero, suc, ◌≤◌, ◌<◌, true, false, List, [], ◌∷◌, ◌++◌, length, All, Some, map, refl}
+use Rattle.std.specs.Prelude.{◌≡◌, ◌⊎◌, ℕ, zero, suc, ◌≤◌, ◌<◌, true, false, List, [], ◌∷◌, ◌++◌, length, All, Some, map, refl}
 use Rattle.std.specs.Prelude.{replicate, slice_get, slice_index, ◌^◌, ◌&&◌, Bool, if◌then◌else◌}
 use Rattle.std.specs.List.{list_all}
-use Rattle.std.proofs.Common.{◌∙◌, sym, ap, subst, arith}
+use Rattle.std.proofs.Common.{◌∙◌, sym, ap, subst, arith, inr}
 use Rattle.limits.proofs.Limits.{orders_are_small}
 use Rattle.numbers.specs.Arithmetic.{Arithmetic, Laws}
 use Rattle.kernel_code.specs.declared.syntax.Arr.TheVariants.{Range, Values, Dimension, Ends as EndsOf, Coordinates, Width, Key, Sums}
@@ -29,14 +29,15 @@ use Rattle.lowering.specs.Lowered.{IsInOrder}
 use Rattle.term_code.specs.declared.places.AccessPlace.{AccessPlace}
 use Rattle.term_code.specs.declared.places.Places.{Places}
 use Rattle.term_code.specs.Places.{StartsAt, new_access}
-use Rattle.operand_arrays.specs.Apart.{AreFrom}
+use Rattle.operand_arrays.specs.Apart.{AreOutside}
 use Rattle.operand_arrays.specs.Terms.{TargetIsBound}
 use Rattle.kernel_correctness.specs.Kernels.{Ends, IsRightKernel, IsRightOutcome}
 use Rattle.kernel_correctness.proofs.Sound.{right_is_sound}
 use Rattle.kernel_correctness.specs.Stores.{Store, IsStoreOf, IsGiven, told_by}
 use Rattle.dense_results.specs.Kernels.{AreAtBase}
-use Rattle.dense_results.specs.Operands.{IsReadStore, operands_in}
+use Rattle.dense_results.specs.Operands.{IsReadStore, first_summed, operands_in}
 use Rattle.dense_results.proofs.Loops.{lowered_loops_go_through}
+use Rattle.kernel_correctness.proofs.FlatStores.{flat_sums}
 use Rattle.result_targets.specs.Beside.{LeavesLists}
 use Rattle.kernel_emit.specs.Emitted.{AddsLoops}
 use Rattle.kernel_emit.specs.declared.emitting.Emitted.{Emitted}
@@ -63,25 +64,25 @@ use Rattle.taco_compiler.proofs.Heads.{needs_no_head}
 use Rattle.taco_compiler.proofs.LoopTurns.{in_order_of, within_cost, within_searches}
 use Rattle.taco_compiler.proofs.Targets.{keys_bound}
 
-all_alike : (n low base : ℕ) → low ≤ base → All (λ y. low ≤ y) (replicate n base)
+all_alike : (n low base : ℕ) → low ≤ base → All (λ y. (y < 0) ⊎ (low ≤ y)) (replicate n base)
 all_alike zero low base le k d l = absurd (omega (arith, l))
-all_alike (suc n) low base le zero d l = le
+all_alike (suc n) low base le zero d l = inr le
 all_alike (suc n) low base le (suc k) d l = all_alike n low base le k d (omega (arith, l))
 
 -- places before all loops are from their base on
 pub places_from : (s : Statement) (base : ℕ) (places : Places) → places.variables ≡ replicate (length s.vars) base
-    → AreAtBase s base places → AreFrom base places
+    → AreAtBase s base places → AreOutside 0 base places
 places_from s base places variables at = record {
-  variables = subst (All (λ y. base ≤ y)) (sym variables) (all_alike (length s.vars) base base (omega arith));
-  accesses = λ k p is. there (map (λ (a : Access). a.tensor) s.accesses) k p (ap (λ ps. slice_get ps k) (sym at) ∙ is);
+  variables = subst (All (λ y. (y < 0) ⊎ (base ≤ y))) (sym variables) (all_alike (length s.vars) base base (omega arith));
+  accesses = λ k p is. inr (there (map (λ (a : Access). a.tensor) s.accesses) k p (ap (λ ps. slice_get ps k) (sym at) ∙ is));
 }
   where
     some_same : (p q : AccessPlace) → Some p ≡ Some q → p ≡ q
     some_same p q h = cc
 
-    there : (tensors : List ℕ) (k : ℕ) (p : AccessPlace) → slice_get (map (new_access base) tensors) k ≡ Some p → base ≤ p.cursor
+    there : (tensors : List ℕ) (k : ℕ) (p : AccessPlace) → slice_get (map (new_access base (first_summed s)) tensors) k ≡ Some p → base ≤ p.cursor
     there [] k p is = absurd (cc is)
-    there (t ∷ tensors) zero p is = subst (λ (q : AccessPlace). base ≤ q.cursor) (some_same (new_access base t) p is) (omega arith)
+    there (t ∷ tensors) zero p is = subst (λ (q : AccessPlace). base ≤ q.cursor) (some_same (new_access base (first_summed s) t) p is) (omega arith)
     there (t ∷ tensors) (suc k) p is = there tensors k p is
 
 -- a result has few levels
@@ -149,18 +150,18 @@ module _ (a : Arithmetic) (laws : Laws a) (s : Statement) (formats : List (List 
   keys = left_in_order s order
 
   read_store : (store : Store) → IsStoreOf s formats store → IsReadStore s formats store
-  read_store store is = record { numbered = f.ordered.numbered; named = f.ordered.named; read = f.read; is = is }
+  read_store store is = record { numbered = f.ordered.numbered; named = f.ordered.named; flat = f.flat; read = f.read; is = is }
 
   bound_there : TargetIsBound keys [] loops
   bound_there =
       keys_bound s formats f.ordered order l.is_order loops
-      (lowered_loops_go_through s f.ordered.numbered formats c in_order loops l.shape true).bound
+      (lowered_loops_go_through s f.ordered.numbered formats (flat_sums s formats f.flat) c in_order loops l.shape l.starts true).bound
 
   own_loops : AreAppendedLoops s formats c loops
   own_loops = record { shares = l.shares; none = l.none; rows = l.rows; shape = l.shape; words = l.words }
 
   module _ (k : AppendedSink) (own : IsSinkOf a formats k) (places : Places) (at : AreAtBase s (behind k) places)
-      (from : AreFrom (behind k) places) (top begin end : List KStmt) (emitted : Emitted) (tops : StartsAt (behind k) top)
+      (from : AreOutside 0 (behind k) places) (top begin end : List KStmt) (emitted : Emitted) (tops : StartsAt (behind k) top)
       (begins : BeginsFirst (letters_in k) (length k.levels) k.base (length k.levels) begin) (free past : ℕ) (room : behind k ≤ free)
       (e : AddsLoops a appended_sink k s formats places keys loops free 0 emitted.lists emitted.code)
       (ending : EndsFirst (letters_in k) k.base past (length k.levels) end) (kernel : Kernel) (spaces : kernel.workspaces ≡ [])
@@ -189,6 +190,8 @@ module _ (a : Arithmetic) (laws : Laws a) (s : Statement) (formats : List (List 
       appends = λ setting same store r taken st t has.
           e.adds setting same laws (behind k) room lists_left [] (λ j. 0) (operands_in s store) (slice_index store.ranges) start
           store.ranges [] st l.placed bound_there taken (record {
+            least = 0;
+            mine_from = λ y mine. omega arith;
             mine_below = λ y mine. mine.before;
             from = t.from;
             kept = λ b of. (t.kept b of, operand_apart 0 emitted.lists b of);
@@ -207,7 +210,7 @@ module _ (a : Arithmetic) (laws : Laws a) (s : Statement) (formats : List (List 
     module _ (store : Store) (is : IsStoreOf s formats store) (arrays : Arrays) (given : IsGiven a.zero store arrays) where
       abbrev IsTold : KernelOutcome → Type 0
       IsTold outcome =
-          IsRightOutcome a s (told_by a store) store outcome × MakesNoMore (appends.most store) outcome
+          IsRightOutcome a s (told_by a s store) store outcome × MakesNoMore (appends.most store) outcome
           × RefusesOnly (OnlyLevels store) outcome
 
       told : Ends a (length store.format) kernel arrays IsTold
@@ -223,7 +226,7 @@ module _ (a : Arithmetic) (laws : Laws a) (s : Statement) (formats : List (List 
       few_turns (TooLong place count) h = tt
       few_turns NotFinished h = absurd h.1
 
-      no_drains : (o : KernelOutcome) → IsTold o → DrainsFew s formats order (told_by a store) store.format o
+      no_drains : (o : KernelOutcome) → IsTold o → DrainsFew s formats order (told_by a s store) store.format o
       no_drains (Finished left turns) h =
           let most = h.1 Drain in
           let none = (e.few (operands_in s store) (slice_index store.ranges) start).drains in
@@ -236,7 +239,7 @@ module _ (a : Arithmetic) (laws : Laws a) (s : Statement) (formats : List (List 
       no_drains (TooLong place count) h = tt
       no_drains NotFinished h = absurd h.1
 
-      few_probes : (o : KernelOutcome) → IsTold o → ProbesFew s formats order store (told_by a store) o
+      few_probes : (o : KernelOutcome) → IsTold o → ProbesFew s formats order store (told_by a s store) o
       few_probes (Finished left turns) h = record {
         none = λ uncalled. within_searches a laws s formats order loops l store (read_store store is) (appends.most store)
             (e.few (operands_in s store) (slice_index store.ranges) start) (turns Probe) (h.1 Probe);
@@ -254,7 +257,7 @@ module _ (a : Arithmetic) (laws : Laws a) (s : Statement) (formats : List (List 
 
     right_kernel : IsRightKernel a s formats kernel
     right_kernel store is arrays given =
-        ends_weaker a (length store.format) kernel arrays (IsTold store is arrays given) (IsRightOutcome a s (told_by a store) store)
+        ends_weaker a (length store.format) kernel arrays (IsTold store is arrays given) (IsRightOutcome a s (told_by a s store) store)
         (λ o h. h.0) (told store is arrays given)
 
     pub appended_compiled : IsCompiled a s formats order kernel
@@ -264,15 +267,15 @@ module _ (a : Arithmetic) (laws : Laws a) (s : Statement) (formats : List (List 
       few = λ store is arrays given. ends_weaker a (length store.format) kernel arrays (IsTold store is arrays given)
           (AreFewTurns s formats order store) (few_turns store is arrays given) (told store is arrays given);
       drains = λ store is arrays given. ends_weaker a (length store.format) kernel arrays (IsTold store is arrays given)
-          (DrainsFew s formats order (told_by a store) store.format) (no_drains store is arrays given) (told store is arrays given);
+          (DrainsFew s formats order (told_by a s store) store.format) (no_drains store is arrays given) (told store is arrays given);
       probes = λ store is arrays given. ends_weaker a (length store.format) kernel arrays (IsTold store is arrays given)
-          (ProbesFew s formats order store (told_by a store)) (few_probes store is arrays given) (told store is arrays given);
+          (ProbesFew s formats order store (told_by a s store)) (few_probes store is arrays given) (told store is arrays given);
       bare = λ none. spaces;
       keyed = λ called. absurd (clash (calls_for_workspace s formats order) called direct);
       marked = λ called. absurd (clash (calls_for_workspace s formats order) called direct);
       direct = λ none store is arrays given. ends_weaker a (length store.format) kernel arrays (IsTold store is arrays given) IsUnrefused
           (unrefused store is arrays given) (told store is arrays given);
       heads = λ sorted store is arrays given. ends_weaker a (length store.format) kernel arrays (IsTold store is arrays given)
-          (NeedsOneHead s order (told_by a store))
-          (λ o h. needs_no_head s order (told_by a store) o (unrefused store is arrays given o h)) (told store is arrays given);
+          (NeedsOneHead s order (told_by a s store))
+          (λ o h. needs_no_head s order (told_by a s store) o (unrefused store is arrays given o h)) (told store is arrays given);
     }

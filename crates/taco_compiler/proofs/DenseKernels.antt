@@ -45,6 +45,7 @@ use Rattle.dense_results.specs.Operands.{IsReadStore, operands_in}
 use Rattle.dense_results.specs.Results.{IsDenseStore, left_ranges}
 use Rattle.dense_results.proofs.Kernels.{dense_kernels_are_right, starts_are_tops}
 use Rattle.dense_results.proofs.Loops.{lowered_loops_go_through}
+use Rattle.kernel_correctness.proofs.FlatStores.{flat_sums}
 use Rattle.dense_results.proofs.Rows.{rows_are_taken}
 use Rattle.result_targets.specs.Beside.{LeavesLists, beside_lists}
 use Rattle.result_targets.specs.Sinks.{Sink, TakesAll}
@@ -70,7 +71,7 @@ module _ (a : Arithmetic) (laws : Laws a) (s : Statement) (formats : List (List 
   in_order = in_order_of s formats order loops l
 
   read_store : (store : Store) → IsStoreOf s formats store → IsReadStore s formats store
-  read_store store is = record { numbered = f.numbered; named = f.named; read = f.read; is = is }
+  read_store store is = record { numbered = f.numbered; named = f.named; flat = f.flat; read = f.read; is = is }
 
   module _ (k : DenseSink) (modes : k.modes ≡ modes_of (format_of formats 0)) (places : Places) (at : AreAtBase s 0 places)
       (top : List KStmt) (emitted : Emitted) (tops : StartsAt 0 top) (free : ℕ)
@@ -93,13 +94,13 @@ module _ (a : Arithmetic) (laws : Laws a) (s : Statement) (formats : List (List 
     lists_left (ListPositions n) h = refl
 
     bound_there : TargetIsBound s.left.vars [] loops
-    bound_there = (lowered_loops_go_through s f.numbered formats c in_order loops l.shape true).bound
+    bound_there = (lowered_loops_go_through s f.numbered formats (flat_sums s formats f.flat) c in_order loops l.shape l.starts true).bound
 
     taken : (store : Store) (d : IsDenseStore s formats store) (r : IsReadStore s formats store)
         → TakesAll dense_sink k (left_ranges s store) []
-        (rows_to a s formats (told_by a store) (stored_in (operands_in s store)) s.left.vars loops)
+        (rows_to a s formats (told_by a s store) (stored_in (operands_in s store)) s.left.vars loops)
     taken store d r =
-        let rows = rows_to a s formats (told_by a store) (stored_in (operands_in s store)) s.left.vars loops in
+        let rows = rows_to a s formats (told_by a s store) (stored_in (operands_in s store)) s.left.vars loops in
         takes_each dense_sink k (left_ranges s store) (IsWithin k.modes (left_ranges s store)) (λ before row h. h) [] rows
         (subst (λ ms. All (IsWithin ms (left_ranges s store)) rows) (ap modes_of d.is.format_is ∙ sym modes)
         (rows_are_taken a laws s formats store d r c in_order loops l.rows l.words))
@@ -112,6 +113,8 @@ module _ (a : Arithmetic) (laws : Laws a) (s : Statement) (formats : List (List 
       adds = λ setting same store d r st t has.
           e.adds setting same laws 0 (omega arith) lists_left [] (λ j. 0) (operands_in s store) (slice_index store.ranges) start
           (left_ranges s store) [] st l.placed bound_there (taken store d r) (record {
+            least = 0;
+            mine_from = λ y mine. omega arith;
             mine_below = t.none;
             from = t.from;
             kept = λ b of. (t.kept b of, operand_apart 0 emitted.lists b of);
@@ -158,9 +161,9 @@ module _ (a : Arithmetic) (laws : Laws a) (s : Statement) (formats : List (List 
           let has = lists_kept 0 emitted.lists begin t (λ b. h.0.arrays b tt) (lists_start kernel arrays 0 emitted.lists few_lists) in
           does_weaker setting code t (λ u. Leaves (dense_sink.mine k) (sink.kept k) free (from_top.most store) t u
           × sink.holds k a (left_ranges s store)
-          ([] ++ rows_to a s formats (told_by a store) (stored_in (operands_in s store)) s.left.vars loops) u) (λ u. AreMost u.turns)
+          ([] ++ rows_to a s formats (told_by a s store) (stored_in (operands_in s store)) s.left.vars loops) u) (λ u. AreMost u.turns)
           (RefusedWithin (from_top.most store) t (dense_sink.refused k (left_ranges s store)
-          ([] ++ rows_to a s formats (told_by a store) (stored_in (operands_in s store)) s.left.vars loops))) Never
+          ([] ++ rows_to a s formats (told_by a s store) (stored_in (operands_in s store)) s.left.vars loops))) Never
           (from_top.adds setting refl store dense_store r t there has)
           (λ u p kind. let first = h.0.turns kind in let then = p.0.turns kind in omega (arith, first, then))
           (λ turns b count no. no.1)
@@ -192,7 +195,7 @@ module _ (a : Arithmetic) (laws : Laws a) (s : Statement) (formats : List (List 
       few_turns (TooLong place count) h = tt
       few_turns NotFinished h = absurd h
 
-      no_drains : (o : KernelOutcome) → ToldTurns o → DrainsFew s formats order (told_by a store) store.format o
+      no_drains : (o : KernelOutcome) → ToldTurns o → DrainsFew s formats order (told_by a s store) store.format o
       no_drains (Finished left turns) h =
           let most = h Drain in
           let none = (e.few (operands_in s store) (slice_index store.ranges) start).drains in
@@ -205,7 +208,7 @@ module _ (a : Arithmetic) (laws : Laws a) (s : Statement) (formats : List (List 
       no_drains (TooLong place count) h = tt
       no_drains NotFinished h = absurd h
 
-      few_probes : (o : KernelOutcome) → ToldTurns o → ProbesFew s formats order store (told_by a store) o
+      few_probes : (o : KernelOutcome) → ToldTurns o → ProbesFew s formats order store (told_by a s store) o
       few_probes (Finished left turns) h = record {
         none = λ direct. within_searches a laws s formats order loops l store (read_store store is) (from_top.most store)
             (e.few (operands_in s store) (slice_index store.ranges) start) (turns Probe) (h Probe);
@@ -235,14 +238,14 @@ module _ (a : Arithmetic) (laws : Laws a) (s : Statement) (formats : List (List 
       few = λ store is arrays given. ends_weaker a (length store.format) kernel arrays (ToldTurns store is arrays given)
           (AreFewTurns s formats order store) (few_turns store is arrays given) (ends_with_turns store is arrays given);
       drains = λ store is arrays given. ends_weaker a (length store.format) kernel arrays (ToldTurns store is arrays given)
-          (DrainsFew s formats order (told_by a store) store.format) (no_drains store is arrays given)
+          (DrainsFew s formats order (told_by a s store) store.format) (no_drains store is arrays given)
           (ends_with_turns store is arrays given);
       probes = λ store is arrays given. ends_weaker a (length store.format) kernel arrays (ToldTurns store is arrays given)
-          (ProbesFew s formats order store (told_by a store)) (few_probes store is arrays given) (ends_with_turns store is arrays given);
+          (ProbesFew s formats order store (told_by a s store)) (few_probes store is arrays given) (ends_with_turns store is arrays given);
       bare = λ none. spaces;
       keyed = λ called. absurd (clash (calls_for_workspace s formats order) called free_of);
       marked = λ called. absurd (clash (calls_for_workspace s formats order) called free_of);
       direct = λ none store is arrays given. ends_unrefused store is arrays given;
       heads = λ sorted store is arrays given. ends_weaker a (length store.format) kernel arrays IsUnrefused
-          (NeedsOneHead s order (told_by a store)) (needs_no_head s order (told_by a store)) (ends_unrefused store is arrays given);
+          (NeedsOneHead s order (told_by a s store)) (needs_no_head s order (told_by a s store)) (ends_unrefused store is arrays given);
     }

@@ -30,7 +30,7 @@ use Rattle.lowering.specs.Stored.{stored_of}
 use Rattle.result_targets.specs.Sinks.{Sink}
 use Rattle.term_code.specs.declared.places.Places.{Places}
 use Rattle.term_code.specs.Places.{StartsAt}
-use Rattle.operand_arrays.specs.Apart.{AreFrom}
+use Rattle.operand_arrays.specs.Apart.{AreOutside}
 use Rattle.operand_arrays.specs.Operands.{stored_in}
 use Rattle.operand_arrays.specs.Terms.{TargetIsBound}
 use Rattle.kernel_correctness.specs.Kernels.{Ends, IsRightKernel, IsRightOutcome}
@@ -39,6 +39,7 @@ use Rattle.kernel_correctness.specs.Stores.{Store, IsStoreOf, IsGiven, operand_o
 use Rattle.dense_results.specs.Kernels.{AreAtBase}
 use Rattle.dense_results.specs.Operands.{IsReadStore, operands_in}
 use Rattle.dense_results.proofs.Loops.{lowered_loops_go_through}
+use Rattle.kernel_correctness.proofs.FlatStores.{flat_sums}
 use Rattle.kernel_emit.specs.Emitted.{AreFew}
 use Rattle.row_orders.specs.Takings.{calls_for_workspace}
 use Rattle.row_orders.proofs.Lists.{clash}
@@ -89,7 +90,7 @@ module _ (a : Arithmetic) (laws : Laws a) (s : Statement) (formats : List (List 
   keys = left_in_order s order
 
   read_store : (store : Store) → IsStoreOf s formats store → IsReadStore s formats store
-  read_store store is = record { numbered = f.ordered.numbered; named = f.ordered.named; read = f.read; is = is }
+  read_store store is = record { numbered = f.ordered.numbered; named = f.ordered.named; flat = f.flat; read = f.read; is = is }
 
   own_loops : AreAppendedLoops s formats c loops
   own_loops = record { shares = l.shares; none = l.none; rows = l.rows; shape = l.shape; words = l.words }
@@ -97,10 +98,10 @@ module _ (a : Arithmetic) (laws : Laws a) (s : Statement) (formats : List (List 
   pub bound_there : TargetIsBound (left_in_order s order) [] loops
   bound_there =
       keys_bound s formats f.ordered order l.is_order loops
-      (lowered_loops_go_through s f.ordered.numbered formats c in_order loops l.shape true).bound
+      (lowered_loops_go_through s f.ordered.numbered formats (flat_sums s formats f.flat) c in_order loops l.shape l.starts true).bound
 
   module _ {W : Type 0} (within : Sink W) (drains : Draining W) (g : Grouped W AppendedSink) (own : IsSinkOf a formats g.outer.now)
-      (places : Places) (at : AreAtBase s (behind g.outer.now) places) (from : AreFrom (behind g.outer.now) places)
+      (places : Places) (at : AreAtBase s (behind g.outer.now) places) (from : AreOutside 0 (behind g.outer.now) places)
       (top begin ready emitted end : List KStmt) (tops : StartsAt (behind g.outer.now) top)
       (begins : BeginsFirst (letters_in g.outer.now) (length g.outer.now.levels) g.outer.now.base (length g.outer.now.levels) begin)
       (free past : ℕ) (spaces : List ℕ) (groups : GroupsFromTop a within drains g s formats order places loops free past spaces ready emitted)
@@ -122,7 +123,7 @@ module _ (a : Arithmetic) (laws : Laws a) (s : Statement) (formats : List (List 
     module _ (store : Store) (is : IsStoreOf s formats store) (arrays : Arrays) (given : IsGiven a.zero store arrays) where
       abbrev IsTold : KernelOutcome → Type 0
       IsTold outcome =
-          IsRightOutcome a s (told_by a store) store outcome × MakesNoMore (appends.most store) outcome
+          IsRightOutcome a s (told_by a s store) store outcome × MakesNoMore (appends.most store) outcome
           × RefusesOnly (Allowed store) outcome
 
       told : Ends a (length store.format) kernel arrays IsTold
@@ -148,7 +149,7 @@ module _ (a : Arithmetic) (laws : Laws a) (s : Statement) (formats : List (List 
 
       -- the sums are as many as the support has points
       abbrev sums : List Entry
-      sums = sums_of a (rows_to a s formats (told_by a store) (stored_in (operands_in s store)) keys loops)
+      sums = sums_of a (rows_to a s formats (told_by a s store) (stored_in (operands_in s store)) keys loops)
 
       are : AreRowsOfResult a s store sums
       are = are_rows a laws s formats c in_order f loops own_loops store is
@@ -175,7 +176,7 @@ module _ (a : Arithmetic) (laws : Laws a) (s : Statement) (formats : List (List 
           (take-append-drop g.first keys) in
           omega (arith, few, all, whole)
 
-      drains_few : (o : KernelOutcome) → IsTold o → DrainsFew s formats order (told_by a store) store.format o
+      drains_few : (o : KernelOutcome) → IsTold o → DrainsFew s formats order (told_by a s store) store.format o
       drains_few (Finished left turns) h = record {
         none = λ free. absurd (clash (calls_for_workspace s formats order) called free);
         within = λ some. record {
@@ -201,7 +202,7 @@ module _ (a : Arithmetic) (laws : Laws a) (s : Statement) (formats : List (List 
       abbrev searches : ℕ
       searches = length s.accesses * statement_cost s formats order (stored_of s (operand_of store)) (slice_index store.ranges)
 
-      few_probes : (o : KernelOutcome) → IsTold o → ProbesFew s formats order store (told_by a store) o
+      few_probes : (o : KernelOutcome) → IsTold o → ProbesFew s formats order store (told_by a s store) o
       few_probes (Finished left turns) h = record {
         none = λ free. absurd (clash (calls_for_workspace s formats order) called free);
         within = λ some. record {
@@ -218,11 +219,11 @@ module _ (a : Arithmetic) (laws : Laws a) (s : Statement) (formats : List (List 
       few_probes (TooLong place count) h = tt
       few_probes NotFinished h = absurd h.1
 
-      one_head : (o : KernelOutcome) → IsTold o → NeedsOneHead s order (told_by a store) o
+      one_head : (o : KernelOutcome) → IsTold o → NeedsOneHead s order (told_by a s store) o
       one_head (Finished left turns) h = tt
       one_head (GotStuck statement) h = absurd h.1
       one_head (TooLong (Level level) count) h = tt
-      one_head (TooLong Workspace count) h = subst (λ vars. AreAtOneHead s order vars (told_by a store) count) head h.2.few
+      one_head (TooLong Workspace count) h = subst (λ vars. AreAtOneHead s order vars (told_by a s store) count) head h.2.few
       one_head NotFinished h = absurd h.1
 
       tail_keys : workspace_keys s formats order ≡ drop g.first keys
@@ -237,7 +238,7 @@ module _ (a : Arithmetic) (laws : Laws a) (s : Statement) (formats : List (List 
 
     right_kernel : IsRightKernel a s formats kernel
     right_kernel store is arrays given =
-        ends_weaker a (length store.format) kernel arrays (IsTold store is arrays given) (IsRightOutcome a s (told_by a store) store)
+        ends_weaker a (length store.format) kernel arrays (IsTold store is arrays given) (IsRightOutcome a s (told_by a s store) store)
         (λ o h. h.0) (told store is arrays given)
 
     pub grouped_compiled : IsCompiled a s formats order kernel
@@ -247,13 +248,13 @@ module _ (a : Arithmetic) (laws : Laws a) (s : Statement) (formats : List (List 
       few = λ store is arrays given. ends_weaker a (length store.format) kernel arrays (IsTold store is arrays given)
           (AreFewTurns s formats order store) (few_turns store is arrays given) (told store is arrays given);
       drains = λ store is arrays given. ends_weaker a (length store.format) kernel arrays (IsTold store is arrays given)
-          (DrainsFew s formats order (told_by a store) store.format) (drains_few store is arrays given) (told store is arrays given);
+          (DrainsFew s formats order (told_by a s store) store.format) (drains_few store is arrays given) (told store is arrays given);
       probes = λ store is arrays given. ends_weaker a (length store.format) kernel arrays (IsTold store is arrays given)
-          (ProbesFew s formats order store (told_by a store)) (few_probes store is arrays given) (told store is arrays given);
+          (ProbesFew s formats order store (told_by a s store)) (few_probes store is arrays given) (told store is arrays given);
       bare = λ free. absurd (clash (calls_for_workspace s formats order) called free);
       direct = λ free. absurd (clash (calls_for_workspace s formats order) called free);
       heads = λ sorted store is arrays given. ends_weaker a (length store.format) kernel arrays (IsTold store is arrays given)
-          (NeedsOneHead s order (told_by a store)) (one_head store is arrays given) (told store is arrays given);
+          (NeedsOneHead s order (told_by a s store)) (one_head store is arrays given) (told store is arrays given);
       keyed = λ some. declared ∙ sized
           ∙ sym (ap (λ b. if b then tail_workspaces (length s.left.vars) else tail_workspaces (length (tail_of s order))) f.sorted);
       marked = λ some store is arrays given. ends_weaker a (length store.format) kernel arrays (IsTold store is arrays given)

@@ -17,8 +17,10 @@ use Rattle.loop_code.proofs.Turns.{skips_within, turns_within}
 use Rattle.lowering.specs.Layouts.{layout_of, letter_at, levels_of}
 use Rattle.lowering.specs.Lowered.{IsInOrder, plain}
 use Rattle.lowering.specs.Stored.{stored_of}
+use Rattle.lowering.specs.Sums.{HasSums}
 use Rattle.operand_arrays.specs.Operands.{stored_in}
 use Rattle.kernel_correctness.specs.Stores.{Store, operand_of, told_by}
+use Rattle.kernel_correctness.proofs.FlatStores.{flat_sums}
 use Rattle.dense_results.specs.Operands.{IsReadStore, operands_in}
 use Rattle.dense_results.proofs.Operands.{has_storages, operands_told}
 use Rattle.kernel_emit.specs.Emitted.{AreFew, AreWidths}
@@ -29,7 +31,7 @@ use Rattle.statement_costs.specs.Probes.{probes}
 use Rattle.statement_costs.proofs.Probes.{probes_within}
 use Rattle.statement_costs.proofs.Slots.{loops_gather_no_more}
 use Rattle.statement_costs.proofs.NoMore.{loops_cost_no_more, loops_repeat_no_more}
-use Rattle.statement_costs.proofs.Packed.{packed_groups}
+use Rattle.statement_costs.proofs.Packed.{real_groups}
 use Rattle.statement_costs.proofs.SharedLoops.{shared_plain}
 use Rattle.taco_compiler.specs.Compiled.{AreWithinCost}
 use Rattle.taco_compiler.specs.Loops.{AreLoopsOf}
@@ -40,15 +42,19 @@ through m n o l k = omega (arith, l, k)
 -- the loops' concrete statement
 abbrev pub in_order_of : (s : Statement) (formats : List (List FormatLevel)) (order : List ℕ) (loops : LoopCode)
     (l : AreLoopsOf s formats order loops) → IsInOrder s formats l.concrete
-in_order_of s formats order loops l = record { order = order; is_order = l.is_order; terms = l.terms }
+in_order_of s formats order loops l = record { order = order; is_order = l.is_order; terms = l.terms; inner = l.inner }
 
 module _ (a : Arithmetic) (laws : Laws a) (s : Statement) (formats : List (List FormatLevel)) (order : List ℕ)
-    (loops : LoopCode) (l : AreLoopsOf s formats order loops) (store : Store) (read_store : IsReadStore s formats store) where
+    (loops : LoopCode) (l : AreLoopsOf s formats order loops) (store : Store)
+    (read_store : IsReadStore s formats store) where
   abbrev c : Concrete
   c = l.concrete
 
   abbrev in_order : IsInOrder s formats c
   in_order = in_order_of s formats order loops l
+
+  sums : HasSums s formats
+  sums = flat_sums s formats read_store.flat
 
   shared : SharesLoops (plain c)
   shared = shared_plain c l.none l.shares
@@ -61,9 +67,11 @@ module _ (a : Arithmetic) (laws : Laws a) (s : Statement) (formats : List (List 
   merges_most =
       let stored = stored_of s (operand_of store) in
       let ranges = slice_index store.ranges in
-      let groups = packed_groups a s formats (operand_of store) (told_by a store) (has_storages s formats store read_store a) in
+      let groups = real_groups a s formats (operand_of store) (told_by a s store) sums
+      (has_storages s formats store read_store a) in
       let turns = turns_within (layout_of s formats) stored ranges loops start in
-      let costs = loops_cost_no_more s formats c in_order shared loops l.shape l.placed l.found l.needed stored ranges groups in
+      let costs = loops_cost_no_more s formats read_store.numbered sums l.suits l.formed c in_order shared loops l.shape l.placed l.found l.in_place
+      l.needed stored ranges groups in
       subst (λ held. merge_turns (layout_of s formats) held ranges loops start ≤ statement_cost s formats order stored ranges)
       (sym same_stored) (through (merge_turns (layout_of s formats) stored ranges loops start)
       (cost (layout_of s formats) stored ranges loops start)
@@ -75,7 +83,8 @@ module _ (a : Arithmetic) (laws : Laws a) (s : Statement) (formats : List (List 
       let stored = stored_of s (operand_of store) in
       let ranges = slice_index store.ranges in
       let turns = skips_within (layout_of s formats) stored ranges loops start in
-      let costs = loops_repeat_no_more s formats c in_order shared loops l.shape l.placed l.found l.needed stored ranges in
+      let costs = loops_repeat_no_more s formats read_store.numbered sums l.suits l.formed c in_order shared loops l.shape l.placed l.found l.in_place
+      l.needed stored ranges in
       subst (λ held. skip_turns (layout_of s formats) held ranges loops start ≤ statement_repeats s formats order stored ranges)
       (sym same_stored) (through (skip_turns (layout_of s formats) stored ranges loops start)
       (dups (layout_of s formats) stored ranges loops start)
@@ -89,7 +98,8 @@ module _ (a : Arithmetic) (laws : Laws a) (s : Statement) (formats : List (List 
       let ranges = slice_index store.ranges in
       subst (λ held. slots (layout_of s formats) held ranges (level_slots s formats widths) loops start
       ≤ statement_slots s formats order stored widths ranges) (sym same_stored)
-      (loops_gather_no_more s formats c in_order shared loops l.shape l.placed l.found l.needed stored ranges widths)
+      (loops_gather_no_more s formats read_store.numbered sums l.suits l.formed c in_order shared loops l.shape l.placed l.found l.in_place
+      l.needed stored ranges widths)
 
   abbrev cost_of : ℕ
   cost_of = statement_cost s formats order (stored_of s (operand_of store)) (slice_index store.ranges)

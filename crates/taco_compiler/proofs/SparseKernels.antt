@@ -44,6 +44,7 @@ use Rattle.dense_results.specs.Kernels.{AreAtBase}
 use Rattle.dense_results.specs.Operands.{IsReadStore, operands_in}
 use Rattle.dense_results.specs.Results.{left_ranges}
 use Rattle.dense_results.proofs.Loops.{lowered_loops_go_through}
+use Rattle.kernel_correctness.proofs.FlatStores.{flat_sums}
 use Rattle.result_targets.specs.Beside.{LeavesLists}
 use Rattle.result_targets.specs.Sinks.{TakesAll}
 use Rattle.kernel_emit.specs.Emitted.{AddsLoops}
@@ -87,8 +88,8 @@ searches_add made loops width each many levels points is few all =
 pub few_drains : (s : Statement) (formats : List (List FormatLevel)) (order : List ℕ) (store : Store) (a : Arithmetic)
     (most turns : LoopKind → ℕ) → calls_for_workspace s formats order ≡ true → list_any is_unordered (result_levels s formats) ≡ true
     → most Drain ≡ 0
-    → (arrays : Arrays) → AreTurns s (told_by a store) (letters_of store.format) most turns arrays
-    → AreFewDrains s formats order (told_by a store) store.format (turns Drain)
+    → (arrays : Arrays) → AreTurns s (told_by a s store) (letters_of store.format) most turns arrays
+    → AreFewDrains s formats order (told_by a s store) store.format (turns Drain)
 few_drains s formats order store a most turns called unordered none arrays t = record {
   none = λ free. absurd (clash (calls_for_workspace s formats order) called free);
   within = λ other. record {
@@ -116,7 +117,7 @@ module _ (a : Arithmetic) (laws : Laws a) (s : Statement) (formats : List (List 
   ordered = record { numbered = f.numbered; named = f.named; left = f.left; format = f.format; some = f.some }
 
   read_store : (store : Store) → IsStoreOf s formats store → IsReadStore s formats store
-  read_store store is = record { numbered = f.numbered; named = f.named; read = f.read; is = is }
+  read_store store is = record { numbered = f.numbered; named = f.named; flat = f.flat; read = f.read; is = is }
 
   many : length keys ≡ length s.left.vars
   many = keys_many s formats ordered order l.is_order
@@ -124,7 +125,7 @@ module _ (a : Arithmetic) (laws : Laws a) (s : Statement) (formats : List (List 
   bound_there : TargetIsBound keys [] loops
   bound_there =
       keys_bound s formats ordered order l.is_order loops
-      (lowered_loops_go_through s f.numbered formats c in_order loops l.shape true).bound
+      (lowered_loops_go_through s f.numbered formats (flat_sums s formats f.flat) c in_order loops l.shape l.starts true).bound
 
   module _ (places : Places) (at : AreAtBase s 0 places) (top fill : List KStmt) (emitted : Emitted)
       (tops : StartsAt 0 top) (free : ℕ)
@@ -152,10 +153,10 @@ module _ (a : Arithmetic) (laws : Laws a) (s : Statement) (formats : List (List 
     lists_left (ListPositions n) h = λ no. no
 
     taken : (store : Store) (r : IsReadStore s formats store) → TakesAll workspace_sink k (left_ranges s store) []
-        (rows_to a s formats (told_by a store) (stored_in (operands_in s store)) keys loops)
+        (rows_to a s formats (told_by a s store) (stored_in (operands_in s store)) keys loops)
     taken store r =
         rows_taken (length keys) (left_ranges s store) []
-        (rows_to a s formats (told_by a store) (stored_in (operands_in s store)) keys loops)
+        (rows_to a s formats (told_by a s store) (stored_in (operands_in s store)) keys loops)
         (loops_add_rows a laws s formats store r loops l.words keys)
 
     -- from the top the code pushes the loops' rows
@@ -166,6 +167,8 @@ module _ (a : Arithmetic) (laws : Laws a) (s : Statement) (formats : List (List 
       pushes = λ setting same store r st t has.
           e.adds setting same laws 0 (omega arith) lists_left [] (λ j. 0) (operands_in s store) (slice_index store.ranges) start
           (left_ranges s store) [] st l.placed bound_there (taken store r) (record {
+            least = 0;
+            mine_from = λ y mine. omega arith;
             mine_below = t.none;
             from = t.from;
             kept = λ b of. (t.kept b of, operand_apart 1 emitted.lists b of);
@@ -193,8 +196,8 @@ module _ (a : Arithmetic) (laws : Laws a) (s : Statement) (formats : List (List 
     module _ (store : Store) (is : IsStoreOf s formats store) (arrays : Arrays) (given : IsGiven a.zero store arrays) where
       abbrev IsTold : KernelOutcome → Type 0
       IsTold outcome =
-          IsRightOutcome a s (told_by a store) store outcome
-          × MakesTurns s (told_by a store) (letters_of store.format) (pushes.most store) outcome
+          IsRightOutcome a s (told_by a s store) store outcome
+          × MakesTurns s (told_by a s store) (letters_of store.format) (pushes.most store) outcome
 
       told : Ends a (length store.format) kernel arrays IsTold
       told =
@@ -209,7 +212,7 @@ module _ (a : Arithmetic) (laws : Laws a) (s : Statement) (formats : List (List 
       few_turns (TooLong place count) h = tt
       few_turns NotFinished h = absurd h.1
 
-      drains_few : (o : KernelOutcome) → IsTold o → DrainsFew s formats order (told_by a store) store.format o
+      drains_few : (o : KernelOutcome) → IsTold o → DrainsFew s formats order (told_by a s store) store.format o
       drains_few (Finished left turns) h =
           few_drains s formats order store a (pushes.most store) turns called unordered
           (e.few (operands_in s store) (slice_index store.ranges) start).drains left h.1
@@ -217,7 +220,7 @@ module _ (a : Arithmetic) (laws : Laws a) (s : Statement) (formats : List (List 
       drains_few (TooLong place count) h = tt
       drains_few NotFinished h = absurd h.1
 
-      few_probes : (o : KernelOutcome) → IsTold o → ProbesFew s formats order store (told_by a store) o
+      few_probes : (o : KernelOutcome) → IsTold o → ProbesFew s formats order store (told_by a s store) o
       few_probes (Finished left turns) h = record {
         none = λ free. absurd (clash (calls_for_workspace s formats order) called free);
         within = λ some. record {
@@ -249,7 +252,7 @@ module _ (a : Arithmetic) (laws : Laws a) (s : Statement) (formats : List (List 
 
     right_kernel : IsRightKernel a s formats kernel
     right_kernel store is arrays given =
-        ends_weaker a (length store.format) kernel arrays (IsTold store is arrays given) (IsRightOutcome a s (told_by a store) store)
+        ends_weaker a (length store.format) kernel arrays (IsTold store is arrays given) (IsRightOutcome a s (told_by a s store) store)
         (λ o h. h.0) (told store is arrays given)
 
     pub sparse_compiled : IsCompiled a s formats order kernel
@@ -259,9 +262,9 @@ module _ (a : Arithmetic) (laws : Laws a) (s : Statement) (formats : List (List 
       few = λ store is arrays given. ends_weaker a (length store.format) kernel arrays (IsTold store is arrays given)
           (AreFewTurns s formats order store) (few_turns store is arrays given) (told store is arrays given);
       drains = λ store is arrays given. ends_weaker a (length store.format) kernel arrays (IsTold store is arrays given)
-          (DrainsFew s formats order (told_by a store) store.format) (drains_few store is arrays given) (told store is arrays given);
+          (DrainsFew s formats order (told_by a s store) store.format) (drains_few store is arrays given) (told store is arrays given);
       probes = λ store is arrays given. ends_weaker a (length store.format) kernel arrays (IsTold store is arrays given)
-          (ProbesFew s formats order store (told_by a store)) (few_probes store is arrays given) (told store is arrays given);
+          (ProbesFew s formats order store (told_by a s store)) (few_probes store is arrays given) (told store is arrays given);
       bare = λ free. absurd (clash (calls_for_workspace s formats order) called free);
       direct = λ free. absurd (clash (calls_for_workspace s formats order) called free);
       heads = λ sorted. absurd (clash (list_any is_unordered (result_levels s formats)) unordered sorted);

@@ -12,7 +12,8 @@ use Rattle.expr_terms.specs.Terms.{contains}
 use Rattle.concrete_notation.specs.Nests.{IsOrderOf, left_in_order}
 use Rattle.concrete_notation.proofs.Around.{keys_contain, left_below}
 use Rattle.concrete_notation.proofs.Orders.{is_order_of}
-use Rattle.loop_code.specs.declared.loops.LoopCode.{LoopCode, Loop', Both', Add, Row_of-LoopCode, end_of-LoopCode, more_of-LoopCode}
+use Rattle.loop_code.specs.declared.loops.LoopCode.{LoopCode, Loop', Both', Add, Sum', Row_of-LoopCode, end_of-LoopCode}
+use Rattle.loop_code.specs.declared.loops.LoopCode.{more_of-LoopCode}
 use Rattle.operand_arrays.specs.Terms.{TargetIsBound, TargetIsBound_in}
 use Rattle.sparse_results.specs.Keys.{HasOrderedResult}
 use Rattle.sparse_results.proofs.Keys.{result_orders_loops}
@@ -62,6 +63,7 @@ mutual
   among_bound target others bound among (Add t) h =
       λ k d l. let s = stands target (slice_index_or others k d) d (among (slice_index_or others k d) (contains_there others k d l)) in
       subst (λ v. contains bound v ≡ true) s.is (h s.at d s.below)
+  among_bound target others bound among (Sum' k p inside q body) h = among_bound_in target others bound among body h
 
   among_bound_in : {m : _} (target others bound : List ℕ) → ((v : ℕ) → contains others v ≡ true → contains target v ≡ true)
       → (row : Row_of-LoopCode m) → TargetIsBound_in target bound row → TargetIsBound_in others bound row

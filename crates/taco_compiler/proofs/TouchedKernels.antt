@@ -34,6 +34,7 @@ use Rattle.statement_costs.specs.Costs.{statement_cost}
 use Rattle.dense_results.specs.Kernels.{AreAtBase}
 use Rattle.dense_results.specs.Operands.{IsReadStore, operands_in}
 use Rattle.dense_results.proofs.Loops.{lowered_loops_go_through}
+use Rattle.kernel_correctness.proofs.FlatStores.{flat_sums}
 use Rattle.kernel_emit.specs.Emitted.{AddsLoops}
 use Rattle.kernel_emit.specs.declared.emitting.Emitted.{Emitted}
 use Rattle.kernel_emit.proofs.ListLaws.{operand_apart}
@@ -122,12 +123,12 @@ module _ (a : Arithmetic) (laws : Laws a) (s : Statement) (formats : List (List 
   }
 
   read_store : (store : Store) → IsStoreOf s formats store → IsReadStore s formats store
-  read_store store is = record { numbered = f.sparse.numbered; named = f.sparse.named; read = f.sparse.read; is = is }
+  read_store store is = record { numbered = f.sparse.numbered; named = f.sparse.named; flat = f.sparse.flat; read = f.sparse.read; is = is }
 
   bound_there : TargetIsBound keys [] loops
   bound_there =
       keys_bound s formats ordered order l.is_order loops
-      (lowered_loops_go_through s f.sparse.numbered formats c in_order loops l.shape true).bound
+      (lowered_loops_go_through s f.sparse.numbered formats (flat_sums s formats f.sparse.flat) c in_order loops l.shape l.starts true).bound
 
   module _ (k : TouchedSink) (places : Places) (at : AreAtBase s 0 places) (below : AreBelow 3 places) (top begin fill : List KStmt)
       (emitted : Emitted) (tops : StartsAt 0 top) (begins : BeginsTouched k begin)
@@ -148,6 +149,8 @@ module _ (a : Arithmetic) (laws : Laws a) (s : Statement) (formats : List (List 
       adds = λ setting same store r takes st t has.
           e.adds setting same laws 0 (omega arith) (touched_draining_laws.lists k) [] (λ j. 0) (operands_in s store)
           (slice_index store.ranges) start (ranges_on k store) [] st l.placed bound_there takes (record {
+            least = 0;
+            mine_from = λ y mine. omega arith;
             mine_below = λ y none. absurd none;
             from = t.from;
             kept = λ b of. (t.kept b of, operand_apart 1 emitted.lists b of);
@@ -173,8 +176,8 @@ module _ (a : Arithmetic) (laws : Laws a) (s : Statement) (formats : List (List 
     module _ (store : Store) (is : IsStoreOf s formats store) (arrays : Arrays) (given : IsGiven a.zero store arrays) where
       abbrev IsTold : KernelOutcome → Type 0
       IsTold outcome =
-          IsRightOutcome a s (told_by a store) store outcome
-          × MakesTurns s (told_by a store) (letters_of store.format) (adds.most store) outcome × RefusesLevels k store outcome
+          IsRightOutcome a s (told_by a s store) store outcome
+          × MakesTurns s (told_by a s store) (letters_of store.format) (adds.most store) outcome × RefusesLevels k store outcome
 
       told : Ends a (length store.format) kernel arrays IsTold
       told =
@@ -190,7 +193,7 @@ module _ (a : Arithmetic) (laws : Laws a) (s : Statement) (formats : List (List 
       few_turns (TooLong place count) h = tt
       few_turns NotFinished h = absurd h.1
 
-      drains_few : (o : KernelOutcome) → IsTold o → DrainsFew s formats order (told_by a store) store.format o
+      drains_few : (o : KernelOutcome) → IsTold o → DrainsFew s formats order (told_by a s store) store.format o
       drains_few (Finished left turns) h =
           few_drains s formats order store a (adds.most store) turns called unordered
           (e.few (operands_in s store) (slice_index store.ranges) start).drains left h.1
@@ -198,7 +201,7 @@ module _ (a : Arithmetic) (laws : Laws a) (s : Statement) (formats : List (List 
       drains_few (TooLong place count) h = tt
       drains_few NotFinished h = absurd h.1
 
-      few_probes : (o : KernelOutcome) → IsTold o → ProbesFew s formats order store (told_by a store) o
+      few_probes : (o : KernelOutcome) → IsTold o → ProbesFew s formats order store (told_by a s store) o
       few_probes (Finished left turns) h = record {
         none = λ free. absurd (clash (calls_for_workspace s formats order) called free);
         within = λ some. record {
@@ -235,7 +238,7 @@ module _ (a : Arithmetic) (laws : Laws a) (s : Statement) (formats : List (List 
 
     right_kernel : IsRightKernel a s formats kernel
     right_kernel store is arrays given =
-        ends_weaker a (length store.format) kernel arrays (IsTold store is arrays given) (IsRightOutcome a s (told_by a store) store)
+        ends_weaker a (length store.format) kernel arrays (IsTold store is arrays given) (IsRightOutcome a s (told_by a s store) store)
         (λ o h. h.0) (told store is arrays given)
 
     pub touched_compiled : IsCompiled a s formats order kernel
@@ -245,9 +248,9 @@ module _ (a : Arithmetic) (laws : Laws a) (s : Statement) (formats : List (List 
       few = λ store is arrays given. ends_weaker a (length store.format) kernel arrays (IsTold store is arrays given)
           (AreFewTurns s formats order store) (few_turns store is arrays given) (told store is arrays given);
       drains = λ store is arrays given. ends_weaker a (length store.format) kernel arrays (IsTold store is arrays given)
-          (DrainsFew s formats order (told_by a store) store.format) (drains_few store is arrays given) (told store is arrays given);
+          (DrainsFew s formats order (told_by a s store) store.format) (drains_few store is arrays given) (told store is arrays given);
       probes = λ store is arrays given. ends_weaker a (length store.format) kernel arrays (IsTold store is arrays given)
-          (ProbesFew s formats order store (told_by a store)) (few_probes store is arrays given) (told store is arrays given);
+          (ProbesFew s formats order store (told_by a s store)) (few_probes store is arrays given) (told store is arrays given);
       bare = λ free. absurd (clash (calls_for_workspace s formats order) called free);
       direct = λ free. absurd (clash (calls_for_workspace s formats order) called free);
       heads = λ sorted. absurd (clash (list_any is_unordered (result_levels s formats)) unordered sorted);
@@ -282,7 +285,8 @@ for_touched s formats order ready some unordered one =
         numbered = ready.numbered;
         named = ready.named;
         left = ready.left;
-        read = ready.right;
+        flat = ready.flat;
+        read = ready.read;
         format = subst (λ t. IsFormat (format_of formats t)) result ready.formed.0;
         some = λ dense. some (subst (λ t. AreAllDense (format_of formats t)) (sym result) dense);
       };

@@ -13,7 +13,7 @@ use Rattle.index_notation.specs.declared.syntax.Statement.{Statement}
 use Rattle.iteration_graph.specs.Edges.{statement_edges}
 use Rattle.iteration_graph.specs.Graphs.{IsLoopOrder, NamesCycle}
 use Rattle.concrete_notation.specs.Contributions.{Inputs}
-use Rattle.kernel_correctness.specs.Kernels.{Ends, IsRightKernel, IsSoundKernel}
+use Rattle.kernel_correctness.specs.Kernels.{Ends, IsRightFor, IsRightKernel, IsSoundKernel, looped}
 use Rattle.kernel_correctness.specs.Stores.{Store, IsStoreOf, IsGiven, operand_of, told_by}
 use Rattle.lowering.specs.Stored.{stored_of}
 use Rattle.simplifier.specs.Folded.{SimpleCode}
@@ -92,7 +92,7 @@ DrainsFew s formats order inputs format NotFinished = ⊥
 abbrev pub KeepsDrains : Arithmetic → Statement → List (List FormatLevel) → List ℕ → Kernel → Type 0
 KeepsDrains a s formats order kernel =
     (store : Store) → IsStoreOf s formats store → (arrays : Arrays) → IsGiven a.zero store arrays
-    → Ends a (length store.format) kernel arrays (DrainsFew s formats order (told_by a store) store.format)
+    → Ends a (length store.format) kernel arrays (DrainsFew s formats order (told_by a s store) store.format)
 
 -- so many points the support has; and a coordinate is sought in each access at most for each merge turn that the cost allows, and in each
 -- level of the result for each point, within so many probe turns as the widest level without order has slots, of an operand or of the result
@@ -123,7 +123,7 @@ ProbesFew s formats order store inputs NotFinished = ⊥
 abbrev pub KeepsProbes : Arithmetic → Statement → List (List FormatLevel) → List ℕ → Kernel → Type 0
 KeepsProbes a s formats order kernel =
     (store : Store) → IsStoreOf s formats store → (arrays : Arrays) → IsGiven a.zero store arrays
-    → Ends a (length store.format) kernel arrays (ProbesFew s formats order store (told_by a store))
+    → Ends a (length store.format) kernel arrays (ProbesFew s formats order store (told_by a s store))
 
 -- a run is neither stuck nor unfinished, and no workspace is refused a growth
 abbrev pub IsUnrefused : KernelOutcome → Type 0
@@ -150,7 +150,7 @@ NeedsOneHead s order inputs NotFinished = ⊥
 abbrev pub KeepsHeads : Arithmetic → Statement → List (List FormatLevel) → List ℕ → Kernel → Type 0
 KeepsHeads a s formats order kernel =
     (store : Store) → IsStoreOf s formats store → (arrays : Arrays) → IsGiven a.zero store arrays
-    → Ends a (length store.format) kernel arrays (NeedsOneHead s order (told_by a store))
+    → Ends a (length store.format) kernel arrays (NeedsOneHead s order (told_by a s store))
 
 -- a run is neither stuck nor unfinished, and a workspace whose key is one variable alone is refused a growth only where that one's range is
 -- too large for marks
@@ -172,6 +172,7 @@ KeepsMarks a s formats order kernel =
 -- none there; else it has those that are called for. Where each level of the result has an order it needs the pairs of one head at most, and
 -- where the workspaces' key is one variable alone, one is refused a growth only if that variable's range is too large for marks.
 -- Whatever is said of a run here, the run takes back nothing that it appended to the result (`Ends`)
+-- The statement is one whose loops a kernel goes through, which reads nested sums as tensors
 pub record IsCompiled (a : Arithmetic) (s : Statement) (formats : List (List FormatLevel)) (order : List ℕ) (kernel : Kernel)
     : Type 0 where
   pub right : IsRightKernel a s formats kernel
@@ -185,9 +186,12 @@ pub record IsCompiled (a : Arithmetic) (s : Statement) (formats : List (List For
   pub keyed : calls_for_workspace s formats order ≡ true → kernel.workspaces ≡ called_workspaces s formats order
   pub marked : calls_for_workspace s formats order ≡ true → KeepsMarks a s formats order kernel
 
--- such a kernel in the loop order, in whose code numbers settle nothing and which over the ring adds and multiplies words alone; or the
--- cycle, where there is one; or want of memory
+-- of the written statement: a kernel in the loop order that is right for it, such a one for the statement whose loops it goes through, in
+-- whose code numbers settle nothing and which over the ring adds and multiplies words alone; or the cycle, where there is one; or want of
+-- memory
 abbrev pub Answers : Arithmetic → Statement → List (List FormatLevel) → Result Compiled CompileFault → Type 0
-Answers a s formats (Ok c) = IsOrder s formats c.order × IsCompiled a s formats c.order c.kernel × SimpleCode a c.kernel.body
+Answers a s formats (Ok c) =
+    IsOrder s formats c.order × IsRightFor a s formats c.kernel × IsCompiled a (looped a s c.order) formats c.order c.kernel
+    × SimpleCode a c.kernel.body
 Answers a s formats (Err (Cycle cycle)) = HasCycle s formats cycle
 Answers a s formats (Err (Memory error)) = Unit {0}

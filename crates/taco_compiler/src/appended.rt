@@ -2,7 +2,7 @@
 //! in place, as they come.
 ghost use Rattle.std.specs.Prelude.{◌≡◌, false, IfOk, length};
 ghost use Rattle.concrete_notation.specs.Workspaces.{AreAllDense};
-ghost use Rattle.expr_terms.specs.Minus.{HasMeaning};
+ghost use Rattle.nested_sums.specs.Pieces.{HasMeaningWithSums};
 ghost use Rattle.iteration_graph.specs.Edges.{HasFormat, format_of};
 ghost use Rattle.kernel_code.specs.Semirings.{semiring_of};
 ghost use Rattle.row_orders.specs.Takings.{calls_for_workspace};
@@ -67,7 +67,7 @@ fn append_rows<S: Semiring>(
     sink: &AppendedSink,
 ) -> Result<Emitted, AllocError>
     requires ready { MayBeLowered statement.now formats.now order.now }
-    requires meant { HasMeaning S.has_minus statement.now.expr }
+    requires meant { HasMeaningWithSums S.has_minus statement.now }
     requires some { AreAllDense (format_of formats.now statement.now.left.tensor) → ⊥ }
     requires levels { sink.now.levels ≡ format_of formats.now statement.now.left.tensor }
     requires base { sink.now.base ≡ 0 }
@@ -100,7 +100,7 @@ pub(crate) fn appended_kernel<S: Semiring>(
     order: &[usize],
 ) -> Result<Kernel, AllocError>
     requires ready { MayBeLowered statement.now formats.now order.now }
-    requires meant { HasMeaning S.has_minus statement.now.expr }
+    requires meant { HasMeaningWithSums S.has_minus statement.now }
     requires some { AreAllDense (format_of formats.now statement.now.left.tensor) → ⊥ }
     requires none { calls_for_workspace statement.now formats.now order.now ≡ false }
     ensures compiled { IfOk result (IsCompiled S.arithmetic statement.now formats.now order.now) }

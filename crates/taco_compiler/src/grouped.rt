@@ -4,7 +4,7 @@ ghost use Rattle.std.specs.Prelude.{◌≡◌, ◌+◌, ◌≤◌, ◌∷◌, []
 ghost use Rattle.concrete_notation.specs.Nests.{left_in_order};
 ghost use Rattle.concrete_notation.specs.Workspaces.{AreAllDense};
 ghost use Rattle.expr_terms.specs.Groups.{groups as groups_of};
-ghost use Rattle.expr_terms.specs.Minus.{HasMeaning};
+ghost use Rattle.nested_sums.specs.Pieces.{HasMeaningWithSums};
 ghost use Rattle.grouped_kernels.specs.Workspaces.{BeginsEmpty, IsWorkspace};
 ghost use Rattle.iteration_graph.specs.Edges.{format_of};
 ghost use Rattle.kernel_code.specs.Semirings.{semiring_of};
@@ -45,7 +45,7 @@ fn group_rows<S: Semiring, W: DrainedWorkspace>(
     sink: &Grouped<W, AppendedSink>,
 ) -> Result<Emitted, AllocError>
     requires ready { MayBeLowered statement.now formats.now order.now }
-    requires meant { HasMeaning S.has_minus statement.now.expr }
+    requires meant { HasMeaningWithSums S.has_minus statement.now }
     requires some { AreAllDense (format_of formats.now statement.now.left.tensor) → ⊥ }
     requires levels { sink.now.outer.now.levels ≡ format_of formats.now statement.now.left.tensor }
     requires base { sink.now.outer.now.base ≡ 0 }
@@ -85,7 +85,7 @@ fn kernel_around<S: Semiring, W: DrainedWorkspace>(
     workspaces: Items<u64>,
 ) -> Result<Kernel, AllocError>
     requires grouped { MayBeGrouped statement.now formats.now order.now }
-    requires meant { HasMeaning S.has_minus statement.now.expr }
+    requires meant { HasMeaningWithSums S.has_minus statement.now }
     requires outer { AppendsToResult S.arithmetic statement.now formats.now sink.now.outer.now }
     requires tail { IsTail statement.now formats.now order.now sink.now.first sink.now.modes.now }
     requires keys { W.sink.keys sink.now.workspace.now ≡ length sink.now.modes.now }
@@ -138,7 +138,7 @@ fn marked_kernel<S: Semiring>(
     modes: &[usize],
 ) -> Result<Kernel, AllocError>
     requires grouped { MayBeGrouped statement.now formats.now order.now }
-    requires meant { HasMeaning S.has_minus statement.now.expr }
+    requires meant { HasMeaningWithSums S.has_minus statement.now }
     requires outer { AppendsToResult S.arithmetic statement.now formats.now outer.now }
     requires tail { IsTail statement.now formats.now order.now first modes.now }
     requires one { length modes.now ≡ 1 }
@@ -183,7 +183,7 @@ fn paired_kernel<S: Semiring>(
     modes: &[usize],
 ) -> Result<Kernel, AllocError>
     requires grouped { MayBeGrouped statement.now formats.now order.now }
-    requires meant { HasMeaning S.has_minus statement.now.expr }
+    requires meant { HasMeaningWithSums S.has_minus statement.now }
     requires outer { AppendsToResult S.arithmetic statement.now formats.now outer.now }
     requires tail { IsTail statement.now formats.now order.now first modes.now }
     requires several { length modes.now ≡ 1 → ⊥ }
@@ -231,7 +231,7 @@ pub(crate) fn grouped_kernel<S: Semiring>(
 ) -> Result<Kernel, AllocError>
     requires groups { groups.now.list ≡ groups_of statement.now }
     requires grouped { MayBeGrouped statement.now formats.now order.now }
-    requires meant { HasMeaning S.has_minus statement.now.expr }
+    requires meant { HasMeaningWithSums S.has_minus statement.now }
     ensures compiled { IfOk result (IsCompiled S.arithmetic statement.now formats.now order.now) }
     ensures over { IfOk result (λ kernel. kernel.semiring ≡ semiring_of S.is_ring S.name) }
 {

@@ -19,7 +19,7 @@ fn tensors_of(alloc: Global, accesses: &[Access]) -> Result<Items<u64>, AllocErr
 }
 
 /// Where the variables and the accesses of a statement are kept before all loops: in three variables from `base` on. Refused only for
-/// want of memory.
+/// want of memory. The last tensors stand for the statement's sums.
 pub(crate) fn first_places(
     alloc: Global,
     statement: &Statement,
@@ -29,6 +29,13 @@ pub(crate) fn first_places(
     ensures accesses { IfOk result (AreAtBase statement.now base) }
 {
     let tensors = tensors_of(alloc, statement.accesses.as_slice())?;
-    let places = Places::new(alloc, statement.vars.len(), tensors.as_slice(), base)?;
+    let real = statement.tensors.len().saturating_sub(statement.sums.len());
+    let places = Places::new(
+        alloc,
+        statement.vars.len(),
+        tensors.as_slice(),
+        real as u64,
+        base,
+    )?;
     Ok(places)
 }

@@ -1,7 +1,6 @@
 -- What the words bind to a statement's names is what they ask for.
 use Rattle.std.specs.Prelude.{◌≡◌, ℕ, true, List, map, Result, Ok, Err, IsErrAnd, MatchResult}
 use Rattle.std.proofs.Common.{sym, subst}
-use Rattle.index_notation.specs.Notation.{IsNotationOf}
 use Rattle.index_notation.specs.Statement.{IsNumberedWithSums}
 use Rattle.index_notation.specs.declared.syntax.Statement.{Statement}
 use Rattle.command_line.specs.declared.Over.{Over}
@@ -11,9 +10,8 @@ use Rattle.bindings.specs.Tables.{file_in}
 use Rattle.refusals.specs.declared.fault.NamedFault.TheVariants as named
 use Rattle.refusals.specs.declared.fault.Fault.{Fault}
 use Rattle.refusals.specs.declared.fault.Fault.TheVariants as fault
-use Rattle.expr_terms.specs.Names.{HasNoNameFault}
-use Rattle.taco_top.specs.Asked.{Asks, AsksOf, Names, IsRefusedByWords, IsBindingFault, IsBindingRefused, IsMinusRefused, IsTextRefused}
-use Rattle.taco_top.specs.Asked.{needs_files}
+use Rattle.taco_top.specs.Asked.{AreNamed, Asks, AsksOf, Names, IsRefusedByWords, IsBindingFault, IsBindingRefused, IsMinusRefused}
+use Rattle.taco_top.specs.Asked.{IsStatementRefused, needs_files}
 use Rattle.taco_top.specs.Exec.{AsksExec, AsksExecOf, ExecNames, ExecRequest, IsExecRefused, exec_request}
 use Rattle.taco_top.specs.declared.asked.Execution.{Execution}
 use Rattle.taco_top.specs.declared.asked.Asked.{Asked}
@@ -67,29 +65,27 @@ module _ (words : List (List ℕ)) (task : Task) (over : Over) (s : Statement) (
   asked_for (Ok asked) is = bound asked is
   asked_for (Err why) is = unbound why is
 
--- a minus that means nothing, in a statement whose names are in order
-by_minus : (words : List (List ℕ)) (task : Task) (over : Over) (text : List ℕ) (rest : List (List ℕ)) (s : Statement)
-    → AsksOf words task over text rest → IsNotationOf text s → HasNoNameFault s → (why : Fault) → IsMinusRefused over s why
-    → IsRefusedByWords words why
-by_minus words task over text rest s line notation names (fault.NoMinus name) is = (task, over, text, rest, line, s, notation, names, is)
-by_minus words task over text rest s line notation names fault.Memory is = absurd is
-by_minus words task over text rest s line notation names fault.Usage is = absurd is
-by_minus words task over text rest s line notation names (fault.Notation why) is = absurd is
-by_minus words task over text rest s line notation names (fault.Named t why) is = absurd is
-by_minus words task over text rest s line notation names (fault.WorkspaceLimit count) is = absurd is
-by_minus words task over text rest s line notation names (fault.ReadFault path) is = absurd is
-by_minus words task over text rest s line notation names (fault.FileBytes path) is = absurd is
-by_minus words task over text rest s line notation names (fault.BadFile path number kind) is = absurd is
-by_minus words task over text rest s line notation names (fault.Kernel why) is = absurd is
-by_minus words task over text rest s line notation names (fault.WriteFault path) is = absurd is
+-- a refusal is answered as it is
+pub refused_as : {T : Type 0} (P : T → Type 0) (Q : Fault → Type 0) (result : Result T Fault) (why : Fault)
+    → IsErrAnd result (λ other. other ≡ why) → Q why → MatchResult result P Q
+refused_as P Q (Ok value) why is refused = absurd is
+refused_as P Q (Err other) why is refused = subst Q (sym is) refused
 
-pub minus_refused : (P : Asked → Type 0) (words : List (List ℕ)) (task : Task) (over : Over) (text : List ℕ) (rest : List (List ℕ))
-    (s : Statement) (result : Result Asked Fault) (why : Fault) → AsksOf words task over text rest → IsNotationOf text s
-    → HasNoNameFault s → IsErrAnd result (λ other. other ≡ why) → IsMinusRefused over s why
-    → MatchResult result P (IsRefusedByWords words)
-minus_refused P words task over text rest s (Ok asked) why line notation names is minus = absurd is
-minus_refused P words task over text rest s (Err other) why line notation names is minus =
-    subst (IsRefusedByWords words) (sym is) (by_minus words task over text rest s line notation names why minus)
+-- a minus that means nothing, in a statement whose names are in order
+pub by_minus : (words : List (List ℕ)) (task : Task) (over : Over) (text : List ℕ) (rest : List (List ℕ)) (s : Statement)
+    → AsksOf words task over text rest → AreNamed text s → (why : Fault) → IsMinusRefused over s why
+    → IsRefusedByWords words why
+by_minus words task over text rest s line names (fault.NoMinus name) is = (task, over, text, rest, line, s, names, is)
+by_minus words task over text rest s line names fault.Memory is = absurd is
+by_minus words task over text rest s line names fault.Usage is = absurd is
+by_minus words task over text rest s line names (fault.Notation why) is = absurd is
+by_minus words task over text rest s line names (fault.Named t why) is = absurd is
+by_minus words task over text rest s line names (fault.WorkspaceLimit count) is = absurd is
+by_minus words task over text rest s line names (fault.ReadFault path) is = absurd is
+by_minus words task over text rest s line names (fault.FileBytes path) is = absurd is
+by_minus words task over text rest s line names (fault.BadFile path number kind) is = absurd is
+by_minus words task over text rest s line names (fault.Kernel why) is = absurd is
+by_minus words task over text rest s line names (fault.WriteFault path) is = absurd is
 
 -- ---- the same of a kernel that is given
 
@@ -150,17 +146,39 @@ module _ (words : List (List ℕ)) (path : List ℕ) (budget : ℕ) (s : Stateme
   executed_for (Ok e) is = exec_bound e is
   executed_for (Err why) is = exec_unbound why is
 
--- a text that is no statement's
-pub text_unexecuted : (words : List (List ℕ)) (path : List ℕ) (budget : ℕ) (text : List ℕ) (rest : List (List ℕ))
-    → AsksExecOf words path budget text rest → (why : Fault) → IsTextRefused text why → IsExecRefused words why
-text_unexecuted words path budget text rest line (fault.Notation why) is = (path, budget, text, rest, line, is)
-text_unexecuted words path budget text rest line fault.Memory is = (path, budget, text, rest, line)
-text_unexecuted words path budget text rest line fault.Usage is = absurd is
-text_unexecuted words path budget text rest line (fault.Named t why) is = absurd is
-text_unexecuted words path budget text rest line (fault.NoMinus name) is = absurd is
-text_unexecuted words path budget text rest line (fault.WorkspaceLimit count) is = absurd is
-text_unexecuted words path budget text rest line (fault.ReadFault at) is = absurd is
-text_unexecuted words path budget text rest line (fault.FileBytes at) is = absurd is
-text_unexecuted words path budget text rest line (fault.BadFile at number kind) is = absurd is
-text_unexecuted words path budget text rest line (fault.Kernel why) is = absurd is
-text_unexecuted words path budget text rest line (fault.WriteFault at) is = absurd is
+-- a text that stands for no statement
+pub unnamed_execution : (words : List (List ℕ)) (path : List ℕ) (budget : ℕ) (text : List ℕ) (rest : List (List ℕ))
+    → AsksExecOf words path budget text rest → (why : Fault) → IsStatementRefused text why → IsExecRefused words why
+unnamed_execution words path budget text rest line (fault.Notation why) is = (path, budget, text, rest, line, is)
+unnamed_execution words path budget text rest line fault.Memory is = (path, budget, text, rest, line)
+unnamed_execution words path budget text rest line fault.Usage is = absurd is
+unnamed_execution words path budget text rest line (fault.Named t (named.Name why)) is = (path, budget, text, rest, line, is)
+unnamed_execution words path budget text rest line (fault.Named t (named.Binding why)) is = absurd is
+unnamed_execution words path budget text rest line (fault.Named t (named.Cycle cycle)) is = absurd is
+unnamed_execution words path budget text rest line (fault.Named t (named.Range why)) is = absurd is
+unnamed_execution words path budget text rest line (fault.Named t (named.SizeLimit large)) is = absurd is
+unnamed_execution words path budget text rest line (fault.NoMinus name) is = absurd is
+unnamed_execution words path budget text rest line (fault.WorkspaceLimit count) is = absurd is
+unnamed_execution words path budget text rest line (fault.ReadFault at) is = absurd is
+unnamed_execution words path budget text rest line (fault.FileBytes at) is = absurd is
+unnamed_execution words path budget text rest line (fault.BadFile at number kind) is = absurd is
+unnamed_execution words path budget text rest line (fault.Kernel why) is = absurd is
+unnamed_execution words path budget text rest line (fault.WriteFault at) is = absurd is
+
+pub unnamed : (words : List (List ℕ)) (task : Task) (over : Over) (text : List ℕ) (rest : List (List ℕ))
+    → AsksOf words task over text rest → (why : Fault) → IsStatementRefused text why → IsRefusedByWords words why
+unnamed words task over text rest line (fault.Notation why) is = (task, over, text, rest, line, is)
+unnamed words task over text rest line fault.Memory is = tt
+unnamed words task over text rest line fault.Usage is = absurd is
+unnamed words task over text rest line (fault.Named t (named.Name why)) is = (task, over, text, rest, line, is)
+unnamed words task over text rest line (fault.Named t (named.Binding why)) is = absurd is
+unnamed words task over text rest line (fault.Named t (named.Cycle cycle)) is = absurd is
+unnamed words task over text rest line (fault.Named t (named.Range why)) is = absurd is
+unnamed words task over text rest line (fault.Named t (named.SizeLimit large)) is = absurd is
+unnamed words task over text rest line (fault.NoMinus name) is = absurd is
+unnamed words task over text rest line (fault.WorkspaceLimit count) is = absurd is
+unnamed words task over text rest line (fault.ReadFault at) is = absurd is
+unnamed words task over text rest line (fault.FileBytes at) is = absurd is
+unnamed words task over text rest line (fault.BadFile at number kind) is = absurd is
+unnamed words task over text rest line (fault.Kernel why) is = absurd is
+unnamed words task over text rest line (fault.WriteFault at) is = absurd is

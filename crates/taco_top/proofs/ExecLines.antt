@@ -44,7 +44,7 @@ line_of words r asks = (r.path, r.budget, asks.names.text, asks.rest, asks.names
 pub refused_line : (words : List (List ℕ)) (why : Fault) → IsExecRefused words why → IsExecLine words
 refused_line words fault.Usage is = absurd is
 refused_line words (fault.Notation why) (path, budget, text, rest, line, is) = (path, budget, text, rest, line)
-refused_line words (fault.Named s (named.Name why)) (path, budget, text, rest, line, notation, is) = (path, budget, text, rest, line)
+refused_line words (fault.Named s (named.Name why)) (path, budget, text, rest, line, is) = (path, budget, text, rest, line)
 refused_line words (fault.Named s (named.Binding why)) (path, budget, rest, names, is) = (path, budget, names.text, rest, names.line)
 refused_line words (fault.Named s (named.Cycle cycle)) is = absurd is
 refused_line words (fault.Named s (named.Range why)) is = absurd is

@@ -16,12 +16,8 @@ use Rattle.numbers.specs.Arithmetic.{Arithmetic}
 use Rattle.tensor_map.specs.Entries.{Entries}
 use Rattle.tensor_storage.specs.Counts.{AreFew}
 use Rattle.format_spec.specs.declared.format.FormatLevel.{FormatLevel}
-use Rattle.index_notation.specs.Notation.{IsNotationOf}
 use Rattle.index_notation.specs.declared.syntax.Statement.{Statement}
 use Rattle.notation_reader.proofs.NotationLaws as notations
-use Rattle.expr_terms.proofs.NameOnce.{names_never_both}
-use Rattle.expr_terms.specs.Expanded.{expanded}
-use Rattle.expr_terms.specs.Names.{HasNoNameFault}
 use Rattle.expr_terms.specs.Ranges.{ranges_of}
 use Rattle.expr_terms.specs.Told.{given_at}
 use Rattle.expr_terms.specs.declared.bound.Bound.{Bound}
@@ -60,7 +56,8 @@ use Rattle.refusals.specs.declared.fault.KernelFault.TheVariants as kernels
 use Rattle.refusals.specs.declared.fault.NamedFault.TheVariants as named
 use Rattle.refusals.specs.declared.fault.Fault.{Fault}
 use Rattle.refusals.specs.declared.fault.Fault.TheVariants as fault
-use Rattle.taco_top.specs.Asked.{IsWant}
+use Rattle.taco_top.proofs.NamedTexts.{named_never_refused, named_once}
+use Rattle.taco_top.specs.Asked.{AreNamed, IsWant}
 use Rattle.taco_top.specs.Ends.{Ends, Ending, Written, Printed, Refused, Executed, Unexecuted, Cause, status_of_end}
 use Rattle.taco_top.specs.Exec.{AsksExec, AsksExecOf, ExecNames, ExecRequest, IsExecRefused, exec_orders, exec_paths}
 use Rattle.taco_top.specs.Executed.{HasInput, HasKernel, IsExecUnwritten, StopsAtKernel, StopsAtOperands, StopsAtRun, StopsExec}
@@ -117,11 +114,9 @@ module _ (words : List (List ℕ)) (path other : List ℕ) (budget turns : ℕ) 
 module _ (words : List (List ℕ)) (path other : List ℕ) (budget turns : ℕ) (s t : Statement) (rest more : List (List ℕ))
     (is : ExecNames words path budget s rest) (be : ExecNames words other turns t more) where
   one_statement : s ≡ t
-  one_statement = is.stands_for
-      ∙ ap expanded (notations.statement_once be.text is.written be.written
-      (subst (λ text. IsNotationOf text is.written)
-      (one_text words path other budget turns is.text be.text rest more is.line be.line) is.notation) be.notation)
-      ∙ sym be.stands_for
+  one_statement =
+      named_once be.text s t
+      (subst (λ text. AreNamed text s) (one_text words path other budget turns is.text be.text rest more is.line be.line) is.named) be.named
 
 module _ (words : List (List ℕ)) (r q : ExecRequest) (asks : AsksExec words r) (ask : AsksExec words q) where
   same_statement : r.statement ≡ q.statement
@@ -148,11 +143,11 @@ module _ (words : List (List ℕ)) (r q : ExecRequest) (asks : AsksExec words r)
 
 -- and what is asked for isn't refused
 module _ (words : List (List ℕ)) (r : ExecRequest) (asks : AsksExec words r) where
-  notation_of : (path : List ℕ) (budget : ℕ) (text : List ℕ) (rest : List (List ℕ)) → AsksExecOf words path budget text rest
-      → IsNotationOf text asks.names.written
-  notation_of path budget text rest line =
-      subst (λ t. IsNotationOf t asks.names.written)
-      (one_text words r.path path r.budget budget asks.names.text text asks.rest rest asks.names.line line) asks.names.notation
+  named_of : (path : List ℕ) (budget : ℕ) (text : List ℕ) (rest : List (List ℕ)) → AsksExecOf words path budget text rest
+      → AreNamed text r.statement
+  named_of path budget text rest line =
+      subst (λ t. AreNamed t r.statement)
+      (one_text words r.path path r.budget budget asks.names.text text asks.rest rest asks.names.line line) asks.names.named
 
   binds_of : (path : List ℕ) (budget : ℕ) (t : Statement) (rest : List (List ℕ)) → ExecNames words path budget t rest
       → Binds t rest true r.formats r.files r.given
@@ -165,11 +160,9 @@ module _ (words : List (List ℕ)) (r : ExecRequest) (asks : AsksExec words r) w
   only_want : (why : Fault) → IsExecRefused words why → IsWant why
   only_want fault.Usage is = is
   only_want (fault.Notation why) (path, budget, text, rest, line, is) =
-      notations.never_both text asks.names.written why (notation_of path budget text rest line) is
-  only_want (fault.Named t (named.Name why)) (path, budget, text, rest, line, notation, is) =
-      names_never_both t why
-      (subst HasNoNameFault (notations.statement_once text asks.names.written t (notation_of path budget text rest line) notation)
-      asks.names.names) is
+      let one = named_of path budget text rest line in notations.never_both text one.written why one.notation is
+  only_want (fault.Named t (named.Name why)) (path, budget, text, rest, line, is) =
+      named_never_refused text r.statement (named_of path budget text rest line) t why is
   only_want (fault.Named t (named.Binding why)) (path, budget, rest, names, is) =
       binding_apart t rest true r.formats r.files r.given why (binds_of path budget t rest names) is
   only_want (fault.Named t (named.Cycle cycle)) is = is

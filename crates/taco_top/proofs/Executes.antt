@@ -13,7 +13,7 @@ use Rattle.format_spec.specs.declared.format.FormatLevel.{FormatLevel}
 use Rattle.index_notation.specs.Statement.{IsNumberedWithSums, IsWellNamed}
 use Rattle.expr_terms.specs.declared.bound.Bound.{Bound}
 use Rattle.expr_terms.proofs.ExpandLaws.{expanded_named}
-use Rattle.expr_terms.proofs.WellNamed.{notation_well_named}
+use Rattle.taco_top.proofs.WellNamed.{notation_well_named}
 use Rattle.kernel_code.specs.declared.syntax.Kernel.{Kernel}
 use Rattle.mtx_io.specs.Progress.{IsMatrixOrder}
 use Rattle.bindings.specs.Tables.{path_to}
@@ -25,7 +25,7 @@ use Rattle.operand_files.specs.declared.fault.OperandFault.TheVariants as operan
 use Rattle.operand_files.specs.declared.kernel_file.KernelFileFault.{KernelFileFault}
 use Rattle.operand_files.specs.declared.kernel_file.KernelFileFault.TheVariants as file
 use Rattle.operand_packing.specs.Runnable.{IsRunnable}
-use Rattle.operand_packing.proofs.NamesRead.{text_read, text_keeps_orders}
+use Rattle.taco_top.proofs.NamesRead.{text_read, text_keeps_orders}
 use Rattle.operand_packing.proofs.Runnable.{read_is_runnable}
 use Rattle.kernel_runs.specs.Given.{IsGivenRun, MayRefuseGiven}
 use Rattle.kernel_runs.specs.declared.fault.GivenFault.{GivenFault}
@@ -55,16 +55,16 @@ module _ (words : List (List ℕ)) (r : ExecRequest) (asks : AsksExec words r) w
   abbrev names : ExecNames words r.path r.budget r.statement asks.rest
   names = asks.names
 
-  written : IsWellNamed names.written
-  written = notation_well_named names.text names.written names.notation names.names
+  written : IsWellNamed names.named.written
+  written = notation_well_named names.text names.named.written names.named.notation names.named.names
 
   well_named : IsWellNamed r.statement
-  well_named = subst IsWellNamed (sym names.stands_for) (expanded_named names.written written)
+  well_named = subst IsWellNamed (sym names.named.stands_for) (expanded_named names.named.written written)
 
   readable_paths : IsNumberedWithSums r.statement → AreReadable (exec_orders r) (exec_paths r)
   readable_paths numbered =
       paths_readable r.statement asks.rest true refl r.formats r.files r.given asks.binds numbered
-      (text_keeps_orders names.text names.written r.statement names.notation written.result names.stands_for)
+      (text_keeps_orders names.text names.named.written r.statement names.named.notation written.result names.named.stands_for)
 
   -- as they were handed in
   module _ (orders : List ℕ) (paths : List (List ℕ)) (orders_are : orders ≡ exec_orders r) (paths_are : paths ≡ exec_paths r) where
@@ -79,7 +79,7 @@ module _ (words : List (List ℕ)) (r : ExecRequest) (asks : AsksExec words r) w
       → IsNumberedWithSums r.statement → IsRunnable r.statement r.formats r.given entries bounds
   exec_runnable over old new entries bounds read numbered =
       read_is_runnable over.arithmetic over.has_minus over.is_signed r.statement numbered well_named
-      (text_read names.text names.written r.statement names.notation names.stands_for) asks.rest true r.formats r.files r.given asks.binds
+      (text_read names.text names.named.written r.statement names.named.notation names.named.stands_for) asks.rest true r.formats r.files r.given asks.binds
       old new (exec_paths r) (length (exec_paths r)) entries bounds (readable_paths numbered) refl read
 
   exec_matrix : asks_matrix (path_of r.files 0) ≡ true → IsMatrixOrder (length r.statement.left.vars)

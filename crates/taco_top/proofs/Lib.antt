@@ -7,12 +7,17 @@ pub mod ExecLines
 pub mod Executes
 pub mod ExecWhole
 pub mod Mended
+pub mod NamedTexts
+pub mod NamesRead
 pub mod OneRequest
 pub mod Paths
+pub mod PlannedSums
 pub mod Prepares
 pub mod Programs
 pub mod Reading
 pub mod Stopped
 pub mod TextLaws
+pub mod TreeSums
 pub mod UsageLaws
+pub mod WellNamed
 pub mod WholeLaws

@@ -1,12 +1,16 @@
 -- A statement is compiled as it is stored: in its loop order, or by the plan that mends its storage orders.
-use Rattle.std.specs.Prelude.{◌≡◌, ℕ, Bool, ◌⊎◌, List, [], length, Option, None, Some, IfSome, Ok, true, refl}
-use Rattle.std.proofs.Common.{◌∙◌, sym, subst, inl, inr}
+use Rattle.std.specs.Prelude.{◌≡◌, ◌≤◌, ℕ, Bool, true, false, ◌||◌, ◌⊎◌, List, length, Option, None, Some, IfSome, Ok, refl}
+use Rattle.std.specs.List.{list_any}
+use Rattle.std.proofs.Common.{◌∙◌, sym, ap, subst, inl, inr, arith}
+use Rattle.numbers.specs.Arithmetic.{Arithmetic}
 use Rattle.kernel_code.specs.Semirings.{semiring_of}
-use Rattle.expr_terms.specs.Minus.{HasMeaning}
-use Rattle.expr_terms.proofs.NestedLaws.{plain_numbered}
 use Rattle.format_spec.specs.declared.format.FormatLevel.{FormatLevel}
-use Rattle.index_notation.specs.Statement.{IsNumbered, IsNumberedWithSums}
+use Rattle.index_notation.specs.Statement.{IsNumberedWithSums}
+use Rattle.index_notation.specs.declared.syntax.NestedSum.{NestedSum}
 use Rattle.index_notation.specs.declared.syntax.Statement.{Statement}
+use Rattle.expr_terms.specs.Minus.{has_minus}
+use Rattle.nested_sums.specs.Bound.{HasNoBadSum}
+use Rattle.nested_sums.specs.Pieces.{HasMeaningWithSums}
 use Rattle.iteration_graph.specs.Edges.{statement_edges}
 use Rattle.iteration_graph.proofs.OrderLaws.{no_order}
 use Rattle.mode_planner.specs.Planned.{Answers as PlanAnswers, CanBeCompiled, HaveOrder}
@@ -20,6 +24,7 @@ use Rattle.taco_top.specs.Asked.{needs_files, needs_kernel, needs_order, writes_
 use Rattle.taco_top.specs.Run.{Request}
 use Rattle.taco_top.specs.Stored.{IsRunBy, stored_statement, stored_formats}
 use Rattle.taco_top.specs.Told.{IsKernelOf}
+use Rattle.taco_top.proofs.PlannedSums.{planned_bound}
 
 -- a task with a kernel needs an order of loops, or mends storage orders
 of_task : (t : Task) → needs_kernel t ≡ true → (needs_order t ≡ true) ⊎ (t ≡ task.Auto)
@@ -77,35 +82,70 @@ module _ (r : Request) (formats : List (List FormatLevel)) (formats_are : format
       → IsKernelOf over (stored_statement r.statement plan) (stored_formats r.formats plan) c.order c.kernel
   kernel_is over c is named =
       subst (λ fs. IsKernelOf over (stored_statement r.statement plan) (stored_formats fs plan) c.order c.kernel) formats_are
-      (record { is_order = is.0; compiled = is.1; over_is = named })
+      (record { is_order = is.0; right = is.1; compiled = is.2; over_is = named })
 
   -- each minus has a meaning in what is stored, where it has one in what is asked for
-  pub stored_meant : (b : Bool) → needs_kernel r.task ≡ true → HasMeaning b r.statement.expr
-      → HasMeaning b (stored_statement r.statement plan).expr
+  pub stored_meant : (b : Bool) → needs_kernel r.task ≡ true → HasMeaningWithSums b r.statement
+      → HasMeaningWithSums b (stored_statement r.statement plan)
   stored_meant b needs meant = by (of_task r.task needs)
     where
-      of_plan : (p : Option Planned) → PlanAnswers r.statement formats p → HasMeaning b (stored_statement r.statement p).expr
-      of_plan None answers = meant
-      of_plan (Some planned) answers = subst (HasMeaning b) (sym answers.planned.expr) meant
+      kept : (c : Bool) (planned : Planned) → PlanAnswers r.statement formats (Some planned) → HasMeaningWithSums c r.statement
+          → HasMeaningWithSums c planned.statement
+      kept true planned answers is = tt
+      kept false planned answers is =
+          ap (λ e. has_minus e || list_any (λ (sum : NestedSum). has_minus sum.inside) planned.statement.sums) answers.planned.expr
+          ∙ ap (λ sums. has_minus r.statement.expr || list_any (λ (sum : NestedSum). has_minus sum.inside) sums) answers.planned.sums
+          ∙ is
 
-      by : (needs_order r.task ≡ true) ⊎ (r.task ≡ task.Auto) → HasMeaning b (stored_statement r.statement plan).expr
-      by (inl needed) = subst (λ p. HasMeaning b (stored_statement r.statement p).expr) (sym (unplanned needed)) meant
+      of_plan : (p : Option Planned) → PlanAnswers r.statement formats p → HasMeaningWithSums b (stored_statement r.statement p)
+      of_plan None answers = meant
+      of_plan (Some planned) answers = kept b planned answers meant
+
+      by : (needs_order r.task ≡ true) ⊎ (r.task ≡ task.Auto) → HasMeaningWithSums b (stored_statement r.statement plan)
+      by (inl needed) = subst (λ p. HasMeaningWithSums b (stored_statement r.statement p)) (sym (unplanned needed)) meant
       by (inr mends) = of_plan plan (planned mends)
 
-  -- no nested sum stands in what is stored, where none stands in what is asked for
-  pub stored_numbered : needs_kernel r.task ≡ true → IsNumberedWithSums r.statement → r.statement.sums ≡ []
-      → IfSome plan (λ planned. CanBeCompiled planned.statement planned.formats) → IsNumbered (stored_statement r.statement plan)
-  stored_numbered needs numbered plain compiled = by (of_task r.task needs)
+  -- what is stored is numbered, and no sum of it is bad
+  pub stored_numbered : needs_kernel r.task ≡ true → IsNumberedWithSums r.statement
+      → IfSome plan (λ planned. CanBeCompiled planned.statement planned.formats) → IsNumberedWithSums (stored_statement r.statement plan)
+  stored_numbered needs numbered compiled = by plan compiled
     where
-      of_plan : (p : Option Planned) → PlanAnswers r.statement formats p
-          → IfSome p (λ planned. CanBeCompiled planned.statement planned.formats) → IsNumbered (stored_statement r.statement p)
-      of_plan None answers able = plain_numbered r.statement numbered plain
-      of_plan (Some planned) answers able = plain_numbered planned.statement able.numbered (answers.planned.sums ∙ plain)
+      by : (p : Option Planned) → IfSome p (λ planned. CanBeCompiled planned.statement planned.formats)
+          → IsNumberedWithSums (stored_statement r.statement p)
+      by None able = numbered
+      by (Some planned) able = able.numbered
 
-      by : (needs_order r.task ≡ true) ⊎ (r.task ≡ task.Auto) → IsNumbered (stored_statement r.statement plan)
-      by (inl needed) = subst (λ p. IsNumbered (stored_statement r.statement p)) (sym (unplanned needed))
-          (plain_numbered r.statement numbered plain)
-      by (inr mends) = of_plan plan (planned mends) compiled
+  pub stored_bound : Arithmetic → needs_kernel r.task ≡ true → IsNumberedWithSums r.statement → HasNoBadSum r.statement
+      → HasNoBadSum (stored_statement r.statement plan)
+  stored_bound a needs numbered bound = by (of_task r.task needs)
+    where
+      of_plan : (p : Option Planned) → PlanAnswers r.statement formats p → HasNoBadSum (stored_statement r.statement p)
+      of_plan None answers = bound
+      of_plan (Some planned) answers = planned_bound a r.statement formats planned numbered answers.planned bound
+
+      by : (needs_order r.task ≡ true) ⊎ (r.task ≡ task.Auto) → HasNoBadSum (stored_statement r.statement plan)
+      by (inl needed) = subst (λ p. HasNoBadSum (stored_statement r.statement p)) (sym (unplanned needed)) bound
+      by (inr mends) = of_plan plan (planned mends)
+
+  -- there are no more formats than tensors
+  pub stored_few : needs_kernel r.task ≡ true → length r.formats ≡ length r.statement.tensors
+      → length (stored_formats formats plan) ≤ length (stored_statement r.statement plan).tensors
+  stored_few needs many = by (of_task r.task needs)
+    where
+      here : length formats ≤ length r.statement.tensors
+      here = let same : length formats ≡ length r.formats = ap length formats_are in omega (arith, same, many)
+
+      of_plan : (p : Option Planned) → PlanAnswers r.statement formats p
+          → length (stored_formats formats p) ≤ length (stored_statement r.statement p).tensors
+      of_plan None answers = here
+      of_plan (Some planned) answers =
+          let f = answers.planned.formats_many in let t = answers.planned.tensors_many in omega (arith, f, t)
+
+      by : (needs_order r.task ≡ true) ⊎ (r.task ≡ task.Auto)
+          → length (stored_formats formats plan) ≤ length (stored_statement r.statement plan).tensors
+      by (inl needed) =
+          subst (λ p. length (stored_formats formats p) ≤ length (stored_statement r.statement p).tensors) (sym (unplanned needed)) here
+      by (inr mends) = of_plan plan (planned mends)
 
   -- a cycle is told only where an order is needed
   pub cyclic : IfSome plan (λ planned. CanBeCompiled planned.statement planned.formats) → (cycle : List ℕ)

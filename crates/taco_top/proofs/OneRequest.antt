@@ -3,13 +3,8 @@ use Rattle.std.specs.Prelude.{◌≡◌, ℕ, Bool, true, false, List, [], Optio
 use Rattle.std.proofs.Common.{◌∙◌, sym, ap, subst, true≢false}
 use Rattle.format_spec.specs.declared.format.FormatLevel.{FormatLevel}
 use Rattle.index_notation.specs.declared.syntax.Statement.{Statement}
-use Rattle.index_notation.specs.declared.syntax.Expr.{Expr}
-use Rattle.index_notation.specs.Notation.{IsNotationOf}
 use Rattle.notation_reader.proofs.NotationLaws as notations
-use Rattle.expr_terms.proofs.NameOnce.{names_never_both}
-use Rattle.expr_terms.specs.Expanded.{expanded}
-use Rattle.expr_terms.specs.Minus.{HasMeaning, has_minus}
-use Rattle.expr_terms.specs.Names.{HasNoNameFault}
+use Rattle.nested_sums.specs.Pieces.{HasMeaningWithSums, has_minus_with_sums}
 use Rattle.command_line.specs.declared.Over.{Over}
 use Rattle.command_line.specs.declared.Over.TheVariants.{Ring}
 use Rattle.command_line.specs.declared.Task.{Task}
@@ -23,8 +18,9 @@ use Rattle.bindings.specs.declared.fault.BindingFault.TheVariants as binding
 use Rattle.refusals.specs.declared.fault.NamedFault.TheVariants as named
 use Rattle.refusals.specs.declared.fault.Fault.{Fault}
 use Rattle.refusals.specs.declared.fault.Fault.TheVariants as fault
+use Rattle.taco_top.proofs.NamedTexts.{named_never_refused, named_once}
 use Rattle.taco_top.specs.Values.{values_of}
-use Rattle.taco_top.specs.Asked.{Asks, AsksOf, Names, IsRefusedByWords, IsBindingFault, IsWant, needs_files}
+use Rattle.taco_top.specs.Asked.{AreNamed, Asks, AsksOf, Names, IsRefusedByWords, IsBindingFault, IsWant, needs_files}
 
 abbrev task_of : Option CommandLine → Task
 task_of None = Run
@@ -70,12 +66,8 @@ one_rest words task other over under text texts rest others is be = ap words_of 
 one_statement : (words : List (List ℕ)) (task other : Task) (over under : Over) (s t : Statement) (rest others : List (List ℕ))
     → Names words task over s rest → Names words other under t others → s ≡ t
 one_statement words task other over under s t rest others is be =
-    is.stands_for
-    ∙ ap expanded (notations.statement_once be.text is.written be.written
-    (subst (λ text. IsNotationOf text is.written)
-    (one_text words task other over under is.text be.text rest others is.line be.line) is.notation)
-    be.notation)
-    ∙ sym be.stands_for
+    named_once be.text s t
+    (subst (λ text. AreNamed text s) (one_text words task other over under is.text be.text rest others is.line be.line) is.named) be.named
 
 module _ (words : List (List ℕ)) (task other : Task) (over under : Over) (s t : Statement) (formats layouts : List (List FormatLevel))
     (files others : List (ℕ × List ℕ)) (ranges given : List (Option ℕ))
@@ -111,10 +103,10 @@ module _ (words : List (List ℕ)) (task other : Task) (over under : Over) (s t 
 apart : {A : Type 0} {x : A} → None ≡ Some x → ⊥
 apart h = cc
 
--- where there is no minus, none stands in an expression with a meaning
-lacks_none : (b : Bool) (e : Expr) → HasMeaning b e → b ≡ false → has_minus e ≡ true → ⊥
-lacks_none true e meant none stands = absurd (true≢false none)
-lacks_none false e meant none stands = true≢false (sym stands ∙ meant)
+-- where there is no minus, none stands in a statement with a meaning
+lacks_none : (b : Bool) (s : Statement) → HasMeaningWithSums b s → b ≡ false → has_minus_with_sums s ≡ true → ⊥
+lacks_none true s meant none stands = absurd (true≢false none)
+lacks_none false s meant none stands = true≢false (sym stands ∙ meant)
 
 -- what is bound isn't refused
 pub binding_apart : (s : Statement) (words : List (List ℕ)) (need : Bool) (formats : List (List FormatLevel)) (files : List (ℕ × List ℕ))
@@ -131,11 +123,10 @@ binding_apart s words need formats files ranges (binding.Memory error) binds is 
 module _ (words : List (List ℕ)) (task : Task) (over : Over) (s : Statement) (formats : List (List FormatLevel)) (files : List (ℕ × List ℕ))
     (ranges : List (Option ℕ)) (asks : Asks words task over s formats files ranges) where
   -- the text of another reading is that of this one
-  notation_of : (other : Task) (under : Over) (text : List ℕ) (rest : List (List ℕ)) → AsksOf words other under text rest
-      → IsNotationOf text asks.names.written
-  notation_of other under text rest line =
-      subst (λ t. IsNotationOf t asks.names.written)
-      (one_text words task other over under asks.names.text text asks.rest rest asks.names.line line) asks.names.notation
+  named_of : (other : Task) (under : Over) (text : List ℕ) (rest : List (List ℕ)) → AsksOf words other under text rest → AreNamed text s
+  named_of other under text rest line =
+      subst (λ t. AreNamed t s) (one_text words task other over under asks.names.text text asks.rest rest asks.names.line line)
+      asks.names.named
 
   -- what is bound is so for the task and the words of another reading
   binds_of : (other : Task) (under : Over) (t : Statement) (rest : List (List ℕ)) → Names words other under t rest
@@ -151,17 +142,14 @@ module _ (words : List (List ℕ)) (task : Task) (over : Over) (s : Statement) (
   only_want : (why : Fault) → IsRefusedByWords words why → IsWant why
   only_want fault.Usage is = apart (sym is ∙ asks.names.line)
   only_want (fault.Notation why) (other, under, text, rest, line, is) =
-      notations.never_both text asks.names.written why (notation_of other under text rest line) is
-  only_want (fault.Named t (named.Name why)) (other, under, text, rest, line, notation, is) =
-      names_never_both t why
-      (subst HasNoNameFault (notations.statement_once text asks.names.written t (notation_of other under text rest line) notation)
-      asks.names.names) is
-  only_want (fault.NoMinus name) (other, under, text, rest, line, t, notation, named, is) =
-      lacks_none (values_of over).has_minus asks.names.written.expr asks.names.meant
+      let one = named_of other under text rest line in notations.never_both text one.written why one.notation is
+  only_want (fault.Named t (named.Name why)) (other, under, text, rest, line, is) =
+      named_never_refused text s (named_of other under text rest line) t why is
+  only_want (fault.NoMinus name) (other, under, text, rest, line, t, named, is) =
+      lacks_none (values_of over).has_minus s asks.names.meant
       (ap (λ o. (values_of o).has_minus) (one_over words task other over under asks.names.text text asks.rest rest asks.names.line line)
       ∙ is.0.has_none)
-      (ap (λ u. has_minus u.expr) (notations.statement_once text asks.names.written t (notation_of other under text rest line) notation)
-      ∙ is.0.stands)
+      (ap has_minus_with_sums (named_once text s t (named_of other under text rest line) named) ∙ is.0.stands)
   only_want (fault.Named t (named.Binding why)) (other, under, rest, names, is) =
       binding_apart t rest (needs_files other) formats files ranges why (binds_of other under t rest names) is
   only_want (fault.Named t (named.Cycle cycle)) is = is
@@ -203,9 +191,9 @@ pub workload_taken : (words : List (List ℕ)) (size : ℕ) (why : Fault)
 workload_taken words size fault.Usage is refused = apart (sym refused ∙ is)
 workload_taken words size (fault.Notation why) is (task, over, text, rest, line, h) =
     absurd (no_statement words size task over text rest is line)
-workload_taken words size (fault.Named t (named.Name why)) is (task, over, text, rest, line, notation, h) =
+workload_taken words size (fault.Named t (named.Name why)) is (task, over, text, rest, line, h) =
     absurd (no_statement words size task over text rest is line)
-workload_taken words size (fault.NoMinus name) is (task, over, text, rest, line, s, notation, named, h) =
+workload_taken words size (fault.NoMinus name) is (task, over, text, rest, line, s, named, h) =
     absurd (no_statement words size task over text rest is line)
 workload_taken words size (fault.Named t (named.Binding why)) is (task, over, rest, names, h) =
     absurd (no_statement words size task over names.text rest is names.line)

@@ -7,7 +7,7 @@ use Rattle.tensor_map.specs.Entries.{Entries}
 use Rattle.format_spec.specs.declared.format.FormatLevel.{FormatLevel}
 use Rattle.index_notation.specs.Statement.{IsNumberedWithSums, IsWellNamed}
 use Rattle.expr_terms.specs.declared.bound.Bound.{Bound}
-use Rattle.expr_terms.proofs.WellNamed.{notation_well_named}
+use Rattle.taco_top.proofs.WellNamed.{notation_well_named}
 use Rattle.operand_files.specs.Decoded.{AreReadable}
 use Rattle.operand_files.specs.Reads.{HaveRead, IsRefused}
 use Rattle.operand_files.specs.declared.fault.OperandFault.{OperandFault}
@@ -17,7 +17,7 @@ use Rattle.kernel_code.specs.declared.syntax.Turns.{Turns}
 use Rattle.tensor_storage.specs.Storages.{Storage}
 use Rattle.mode_planner.specs.declared.planned.Planned.{Planned}
 use Rattle.operand_packing.specs.Runnable.{IsRunnable}
-use Rattle.operand_packing.proofs.NamesRead.{text_read, text_keeps_orders}
+use Rattle.taco_top.proofs.NamesRead.{text_read, text_keeps_orders}
 use Rattle.operand_packing.proofs.Runnable.{read_is_runnable}
 use Rattle.refusals.specs.declared.fault.Fault.{Fault}
 use Rattle.refusals.specs.declared.fault.Fault.TheVariants as fault
@@ -41,13 +41,13 @@ pub request_readable : (words : List (List ℕ)) (r : Request) → needs_files r
     → IsNumberedWithSums r.statement → AreReadable (asked_orders r) (asked_paths r)
 request_readable words r reads accepted numbered =
     paths_readable r.statement accepted.asks.rest (needs_files r.task) reads r.formats r.files r.given accepted.asks.binds numbered
-    (text_keeps_orders names.text names.written r.statement names.notation written.result names.stands_for)
+    (text_keeps_orders names.text names.named.written r.statement names.named.notation written.result names.named.stands_for)
   where
     names : Names words r.task r.over r.statement accepted.asks.rest
     names = accepted.asks.names
 
-    written : IsWellNamed names.written
-    written = notation_well_named names.text names.written names.notation names.names
+    written : IsWellNamed names.named.written
+    written = notation_well_named names.text names.named.written names.named.notation names.named.names
 
 module _ (over : Values) where
   -- the orders and paths that were handed in are those of the request
@@ -110,7 +110,7 @@ module _ (over : Values) where
       → IsRunnable r.statement r.formats r.given entries bounds
   request_runnable words old new r entries bounds operands numbered =
       let names = operands.accepted.asks.names in
-      let each_read = text_read names.text names.written r.statement names.notation names.stands_for in
+      let each_read = text_read names.text names.named.written r.statement names.named.notation names.named.stands_for in
       read_is_runnable over.arithmetic over.has_minus over.is_signed r.statement numbered
       (well_named words r operands.accepted.asks) each_read operands.accepted.asks.rest
       (needs_files r.task) r.formats r.files r.given operands.accepted.asks.binds old new (asked_paths r) (length (asked_paths r)) entries

@@ -7,7 +7,7 @@ use Rattle.std.specs.declared.alloc.Global.{Global}
 use Rattle.outside.specs.Count.{Rose}
 use Rattle.outside.specs.Folder.{FolderState}
 use Rattle.outside.specs.Sink.{SinkState}
-use Rattle.index_notation.specs.declared.fault.NotationFault.{NotationFault}
+use Rattle.notation_grammar.specs.declared.fault.NotationFault.{NotationFault}
 use Rattle.index_notation.specs.declared.syntax.Statement.{Statement}
 use Rattle.expr_terms.specs.declared.names.NameFault.{NameFault}
 use Rattle.bindings.specs.declared.fault.BindingFault.{BindingFault}
@@ -136,10 +136,10 @@ module _ (over : Values) (words : List (List ℕ)) (files files' : FolderState) 
   by_notation why (t, o, text, rest, is, other) = no_statement is
 
   by_name : (s : Statement) (why : NameFault) → IsRefusedByWords words (fault.Named s (named.Name why)) → ⊥
-  by_name s why (t, o, text, rest, is, notation, other) = no_statement is
+  by_name s why (t, o, text, rest, is, other) = no_statement is
 
   by_minus : (name : Bor (List ℕ)) → IsRefusedByWords words (fault.NoMinus name) → ⊥
-  by_minus name (t, o, text, rest, is, s, notation, names, other) = no_statement is
+  by_minus name (t, o, text, rest, is, s, names, other) = no_statement is
 
   by_binding : (s : Statement) (why : BindingFault) → IsRefusedByWords words (fault.Named s (named.Binding why)) → ⊥
   by_binding s why (t, o, rest, names, other) = no_statement names.line

@@ -5,8 +5,8 @@ use Rattle.std.proofs.Common.{◌∙◌, sym, subst, inl, inr}
 use Rattle.std.specs.declared.alloc.Global.{Global}
 use Rattle.outside.specs.Folder.{FolderState}
 use Rattle.outside.specs.Sink.{SinkState}
-use Rattle.index_notation.specs.declared.fault.NotationFault.{NotationFault}
-use Rattle.index_notation.specs.declared.fault.NotationFault.TheVariants as notation
+use Rattle.notation_grammar.specs.declared.fault.NotationFault.{NotationFault}
+use Rattle.notation_grammar.specs.declared.fault.NotationFault.TheVariants as notation
 use Rattle.expr_terms.specs.declared.range_fault.RangeFault.TheVariants as range
 use Rattle.bindings.specs.declared.fault.WordFault.{WordFault}
 use Rattle.bindings.specs.declared.fault.WordFault.TheVariants.{BadBinding, UnknownName, Twice, NotMatrix, RangeLimit}
@@ -116,12 +116,12 @@ module _ (over : Values) (words : List (List ℕ)) (files files' : FolderState) 
     found (Refused (fault.NoMinus name)) cause = by cause.stops.refused
       where
         by : IsRefusedByWords words (fault.NoMinus name) → (status_of (fault.NoMinus name) ≡ 2) ⊎ (status_of (fault.NoMinus name) ≡ 5)
-        by (task, o, text, rest, line, s, notation, names, is) = absurd (never line)
+        by (task, o, text, rest, line, s, names, is) = absurd (never line)
     found (Refused (fault.Named s (named.Name why))) cause = by cause.stops.refused
       where
         by : IsRefusedByWords words (fault.Named s (named.Name why))
             → (named_status (named.Name why) ≡ 2) ⊎ (named_status (named.Name why) ≡ 5)
-        by (task, o, text, rest, line, notation, is) = absurd (never line)
+        by (task, o, text, rest, line, is) = absurd (never line)
     found (Refused (fault.Named s (named.Binding why))) cause = by cause.stops.refused
       where
         by : IsRefusedByWords words (fault.Named s (named.Binding why))

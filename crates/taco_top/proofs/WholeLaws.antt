@@ -30,6 +30,7 @@ use Rattle.operand_files.specs.declared.fault.OperandFault.TheVariants as operan
 use Rattle.operand_files.proofs.ToldLaws.{told_answer, told_bad_line, told_others}
 use Rattle.iteration_graph.specs.Edges.{statement_edges}
 use Rattle.iteration_graph.proofs.OrderLaws.{no_order}
+use Rattle.kernel_correctness.specs.Kernels.{looped}
 use Rattle.row_orders.specs.Heads.{result_levels}
 use Rattle.row_orders.specs.Takings.{calls_for_workspace, is_unordered}
 use Rattle.taco_compiler.specs.Compiled.{HasCycle, IsOrder}
@@ -156,8 +157,10 @@ module _ (over : Values) (words : List (List ℕ)) (files : FolderState) (whole 
 
     pairs_fit : (plan : Option Planned) → IsRunBy whole.request plan → (order : List ℕ)
         → IsOrder (stored_statement whole.request.statement plan) (stored_formats whole.request.formats plan) order
-        → calls_for_workspace (stored_statement whole.request.statement plan) (stored_formats whole.request.formats plan) order ≡ true
-        → HasLargeKey (stored_statement whole.request.statement plan) (stored_formats whole.request.formats plan) order whole.ranges
+        → calls_for_workspace (looped over.arithmetic (stored_statement whole.request.statement plan) order)
+        (stored_formats whole.request.formats plan) order ≡ true
+        → HasLargeKey (looped over.arithmetic (stored_statement whole.request.statement plan) order)
+        (stored_formats whole.request.formats plan) order whole.ranges
         → WorkspacesFit over.arithmetic (stored_statement whole.request.statement plan) (stored_formats whole.request.formats plan) order
         whole.ranges (stored_entries entries plan)
     pairs_fit plan is_plan order is_order called large =
@@ -245,8 +248,8 @@ module _ (over : Values) (words : List (List ℕ)) (files : FolderState) (whole 
             pairs_fit new is.entries is.bounds operands is.plan (subst (λ q. IsRunBy q is.plan) same is.is_plan) is.order
             (subst (λ q. IsOrder (stored_statement q.statement is.plan) (stored_formats q.formats is.plan) is.order) same
             is.is_kernel.is_order)
-            (subst (λ q. calls_for_workspace (stored_statement q.statement is.plan) (stored_formats q.formats is.plan) is.order ≡ true) same
-            is.called)
+            (subst (λ q. calls_for_workspace (looped over.arithmetic (stored_statement q.statement is.plan) is.order)
+            (stored_formats q.formats is.plan) is.order ≡ true) same is.called)
             (large_by_ranges over whole.request.statement whole.request.formats is.plan is.order is.kernel whole.request.given is.entries
             is.bounds count whole.ranges (told_there new is.entries is.bounds operands) needs)
 

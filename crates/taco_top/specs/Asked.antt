@@ -4,9 +4,12 @@ use Rattle.std.specs.Prelude.{◌≡◌, ℕ, Bool, List, Option, Some, None, ma
 use denote.Ref.{Bor}
 use Rattle.format_spec.specs.declared.format.FormatLevel.{FormatLevel}
 use Rattle.index_notation.specs.declared.syntax.Statement.{Statement}
-use Rattle.index_notation.specs.Notation.{IsNotationOf, IsFaultOf}
+use Rattle.notation_grammar.specs.Notation.{IsNotationOf, IsFaultOf}
 use Rattle.expr_terms.specs.Expanded.{expanded}
-use Rattle.expr_terms.specs.Minus.{HasMeaning, has_minus}
+use Rattle.expr_terms.specs.declared.names.NameFault.{NameFault}
+use Rattle.expr_terms.specs.declared.names.NameFault.TheVariants.{BadSum}
+use Rattle.nested_sums.specs.Bad.{AreFine, IsFirstBad}
+use Rattle.nested_sums.specs.Pieces.{HasMeaningWithSums, has_minus_with_sums}
 use Rattle.expr_terms.specs.Names.{HasNoNameFault, IsFirstNameFault}
 use Rattle.command_line.specs.CommandLine.{command_line_of}
 use Rattle.command_line.specs.CommandLine as command_line
@@ -60,21 +63,38 @@ writes_result task.Plan = false
 abbrev pub AsksOf : List (List ℕ) → Task → Over → List ℕ → List (List ℕ) → Type 0
 AsksOf words task over text rest = command_line_of words ≡ Some (command_line.Statement task over text rest)
 
--- a minus stands on the right of the statement, and the semiring has none
+-- a minus stands on the right of the statement, maybe inside a nested sum, and the semiring has none
 pub record LacksMinus (over : Over) (s : Statement) : Type 0 where
   pub has_none : (values_of over).has_minus ≡ false
-  pub stands : has_minus s.expr ≡ true
+  pub stands : has_minus_with_sums s ≡ true
 
--- the command line asks this task for a statement, whose names are in order as it is written, and each minus has a meaning; and this is the
--- one that it stands for
-pub record Names (words : List (List ℕ)) (task : Task) (over : Over) (s : Statement) (rest : List (List ℕ)) : Type 0 where
-  pub text : List ℕ
-  pub line : AsksOf words task over text rest
+-- ---- the refusals, stage by stage
+abbrev pub IsLineRefused : List (List ℕ) → Fault → Type 0
+IsLineRefused words Usage = command_line_of words ≡ None
+IsLineRefused words Memory = Unit {0}
+IsLineRefused words _ = ⊥
+
+-- why the names of a statement of a text are refused: the fault of an access as it is written, or else of a nested sum
+abbrev pub IsNameRefused : List ℕ → Statement → NameFault → Type 0
+IsNameRefused text s (BadSum var) =
+    (written : Statement) × IsNotationOf text written × HasNoNameFault written × (s ≡ expanded written) × IsFirstBad s var
+IsNameRefused text s fault = IsNotationOf text s × IsFirstNameFault s fault
+
+-- a text stands for a statement: the names of what is written are in order, and no nested sum's variable is bound and free
+pub record AreNamed (text : List ℕ) (s : Statement) : Type 0 where
   pub written : Statement
   pub notation : IsNotationOf text written
   pub names : HasNoNameFault written
-  pub meant : HasMeaning (values_of over).has_minus written.expr
   pub stands_for : s ≡ expanded written
+  pub fine : AreFine s
+
+-- the command line asks this task for a statement, the names of whose accesses are in order as it is written; this is the one that it stands
+-- for, in which each minus has a meaning
+pub record Names (words : List (List ℕ)) (task : Task) (over : Over) (s : Statement) (rest : List (List ℕ)) : Type 0 where
+  pub text : List ℕ
+  pub line : AsksOf words task over text rest
+  pub named : AreNamed text s
+  pub meant : HasMeaningWithSums (values_of over).has_minus s
 
 -- what the words ask for
 pub record Asks (words : List (List ℕ)) (task : Task) (over : Over) (s : Statement) (formats : List (List FormatLevel))
@@ -83,16 +103,12 @@ pub record Asks (words : List (List ℕ)) (task : Task) (over : Over) (s : State
   pub names : Names words task over s rest
   pub binds : Binds s rest (needs_files task) formats files ranges
 
--- ---- the refusals, stage by stage
-abbrev pub IsLineRefused : List (List ℕ) → Fault → Type 0
-IsLineRefused words Usage = command_line_of words ≡ None
-IsLineRefused words Memory = Unit {0}
-IsLineRefused words _ = ⊥
-
-abbrev pub IsTextRefused : List ℕ → Fault → Type 0
-IsTextRefused text (Notation fault) = IsFaultOf text fault
-IsTextRefused text Memory = Unit {0}
-IsTextRefused text _ = ⊥
+-- why a text stands for none
+abbrev pub IsStatementRefused : List ℕ → Fault → Type 0
+IsStatementRefused text (Notation fault) = IsFaultOf text fault
+IsStatementRefused text (Named s (Name fault)) = IsNameRefused text s fault
+IsStatementRefused text Memory = Unit {0}
+IsStatementRefused text _ = ⊥
 
 -- a minus has no meaning over the semiring of this name
 abbrev pub IsMinusFault : Over → Statement → Bor (List ℕ) → Type 0
@@ -119,10 +135,10 @@ IsRefusedByWords words (Notation fault) =
     (task : Task) × (over : Over) × (text : List ℕ) × (rest : List (List ℕ)) × AsksOf words task over text rest × IsFaultOf text fault
 IsRefusedByWords words (Named s (Name fault)) =
     (task : Task) × (over : Over) × (text : List ℕ) × (rest : List (List ℕ)) × AsksOf words task over text rest
-    × IsNotationOf text s × IsFirstNameFault s fault
+    × IsNameRefused text s fault
 IsRefusedByWords words (NoMinus name) =
     (task : Task) × (over : Over) × (text : List ℕ) × (rest : List (List ℕ)) × AsksOf words task over text rest
-    × (s : Statement) × IsNotationOf text s × HasNoNameFault s × IsMinusFault over s name
+    × (s : Statement) × AreNamed text s × IsMinusFault over s name
 IsRefusedByWords words (Named s (Binding fault)) =
     (task : Task) × (over : Over) × (rest : List (List ℕ)) × Names words task over s rest × IsBindingFault s rest (needs_files task) fault
 IsRefusedByWords words Memory = Unit {0}

@@ -2,16 +2,14 @@
 use Rattle.std.specs.Prelude.{◌≡◌, ℕ, List, Option, Some, map, true}
 use Rattle.format_spec.specs.declared.format.FormatLevel.{FormatLevel}
 use Rattle.index_notation.specs.declared.syntax.Statement.{Statement}
-use Rattle.index_notation.specs.Notation.{IsNotationOf, IsFaultOf}
-use Rattle.expr_terms.specs.Expanded.{expanded}
-use Rattle.expr_terms.specs.Names.{HasNoNameFault, IsFirstNameFault}
+use Rattle.notation_grammar.specs.Notation.{IsFaultOf}
 use Rattle.command_line.specs.CommandLine.{Exec, command_line_of}
 use Rattle.bindings.specs.Outcome.{Binds}
 use Rattle.bindings.specs.Tables.{file_in}
 use Rattle.refusals.specs.declared.fault.NamedFault.TheVariants.{Name, Binding}
 use Rattle.refusals.specs.declared.fault.Fault.{Fault}
 use Rattle.refusals.specs.declared.fault.Fault.TheVariants.{Notation, Named, Memory}
-use Rattle.taco_top.specs.Asked.{IsBindingFault}
+use Rattle.taco_top.specs.Asked.{AreNamed, IsBindingFault, IsNameRefused}
 use Rattle.taco_top.specs.Run.{orders_of, paths_of}
 use Rattle.taco_top.specs.declared.asked.Execution.{Execution}
 
@@ -36,15 +34,12 @@ exec_paths r = paths_of r.statement r.files
 abbrev pub AsksExecOf : List (List ℕ) → List ℕ → ℕ → List ℕ → List (List ℕ) → Type 0
 AsksExecOf words path budget text rest = command_line_of words ≡ Some (Exec path budget text rest)
 
--- and for a statement, whose names are in order as it is written; this is the one that it stands for. A minus is never refused: what the
--- statement says counts for its operands, ranges and formats alone
+-- and for a statement that the text stands for. A minus is never refused: what the statement says counts for its operands, ranges and formats
+-- alone
 pub record ExecNames (words : List (List ℕ)) (path : List ℕ) (budget : ℕ) (s : Statement) (rest : List (List ℕ)) : Type 0 where
   pub text : List ℕ
   pub line : AsksExecOf words path budget text rest
-  pub written : Statement
-  pub notation : IsNotationOf text written
-  pub names : HasNoNameFault written
-  pub stands_for : s ≡ expanded written
+  pub named : AreNamed text s
 
 -- what the words ask for
 pub record AsksExec (words : List (List ℕ)) (r : ExecRequest) : Type 0 where
@@ -70,7 +65,7 @@ IsExecRefused words (Notation fault) =
     (path : List ℕ) × (budget : ℕ) × (text : List ℕ) × (rest : List (List ℕ)) × AsksExecOf words path budget text rest × IsFaultOf text fault
 IsExecRefused words (Named s (Name fault)) =
     (path : List ℕ) × (budget : ℕ) × (text : List ℕ) × (rest : List (List ℕ)) × AsksExecOf words path budget text rest
-    × IsNotationOf text s × IsFirstNameFault s fault
+    × IsNameRefused text s fault
 IsExecRefused words (Named s (Binding fault)) =
     (path : List ℕ) × (budget : ℕ) × (rest : List (List ℕ)) × ExecNames words path budget s rest × IsBindingFault s rest true fault
 IsExecRefused words Memory =

@@ -12,6 +12,7 @@ use Rattle.index_notation.specs.declared.syntax.Statement.{Statement}
 use Rattle.expr_terms.specs.declared.bound.Bound.{Bound}
 use Rattle.expr_terms.specs.declared.range_fault.RangeFault.{RangeFault}
 use Rattle.operand_files.specs.Reads.{OnlyReads, RefusedAtFault, RefusedAtLength, RefusedAtLine, OpensFirst, NoReadFails}
+use Rattle.kernel_correctness.specs.Kernels.{looped}
 use Rattle.row_orders.specs.Takings.{calls_for_workspace}
 use Rattle.taco_compiler.specs.Compiled.{HasCycle}
 use Rattle.operand_packing.specs.Runnable.{told_ranges}
@@ -85,7 +86,8 @@ pub record HasManyPairs (over : Values) (words : List (List ℕ)) (old new : Fol
   pub order : List ℕ
   pub kernel : Kernel
   pub is_kernel : IsKernelOf over (stored_statement request.statement plan) (stored_formats request.formats plan) order kernel
-  pub called : calls_for_workspace (stored_statement request.statement plan) (stored_formats request.formats plan) order ≡ true
+  pub called : calls_for_workspace (looped over.arithmetic (stored_statement request.statement plan) order)
+      (stored_formats request.formats plan) order ≡ true
   pub entries : List Entries
   pub bounds : List (Vec Bound Global)
   pub operands : HasOperands over words old new request entries bounds

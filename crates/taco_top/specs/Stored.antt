@@ -8,6 +8,7 @@ use Rattle.kernel_code.specs.declared.syntax.Kernel.{Kernel}
 use Rattle.format_spec.specs.declared.format.FormatLevel.{FormatLevel}
 use Rattle.index_notation.specs.declared.syntax.Statement.{Statement}
 use Rattle.expr_terms.specs.declared.bound.Bound.{Bound}
+use Rattle.kernel_correctness.specs.Kernels.{looped}
 use Rattle.kernel_correctness.specs.Stores.{Store, told_by}
 use Rattle.row_orders.specs.Heads.{result_levels}
 use Rattle.row_orders.specs.Takings.{is_unordered}
@@ -72,7 +73,9 @@ pub record NeedsStoredWorkspace (over : Values) (s : Statement) (formats : List 
     : Type 0 where
   pub pairs : NeedsStoredPairs over s formats plan kernel given entries bounds count
   pub head : list_any is_unordered (result_levels (stored_statement s plan) (stored_formats formats plan)) ≡ false
-      → AreAtOneHead (stored_statement s plan) order (head_variables (stored_statement s plan) order)
-      (told_by over.arithmetic (needing_store over s formats plan kernel given entries bounds count pairs)) count
-  pub large : HasLargeKey (stored_statement s plan) (stored_formats formats plan) order
+      → AreAtOneHead (looped over.arithmetic (stored_statement s plan) order) order
+      (head_variables (looped over.arithmetic (stored_statement s plan) order) order)
+      (told_by over.arithmetic (looped over.arithmetic (stored_statement s plan) order)
+      (needing_store over s formats plan kernel given entries bounds count pairs)) count
+  pub large : HasLargeKey (looped over.arithmetic (stored_statement s plan) order) (stored_formats formats plan) order
       (needing_store over s formats plan kernel given entries bounds count pairs).ranges

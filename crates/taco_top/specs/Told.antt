@@ -12,6 +12,7 @@ use Rattle.kernel_code.specs.declared.syntax.Turns.{Turns}
 use Rattle.tensor_storage.specs.Storages.{Storage}
 use Rattle.format_spec.specs.declared.format.FormatLevel.{FormatLevel}
 use Rattle.index_notation.specs.declared.syntax.Statement.{Statement}
+use Rattle.kernel_correctness.specs.Kernels.{IsRightFor, looped}
 use Rattle.kernel_correctness.specs.Stores.{Store}
 use Rattle.taco_compiler.specs.Compiled.{IsOrder, IsCompiled}
 use Rattle.kernel_runs.specs.Runs.{IsStoreFor, RunsKernel}
@@ -32,10 +33,12 @@ use Rattle.taco_top.specs.Run.{Request, AsksFor, path_of}
 use Rattle.taco_top.specs.Stored.{IsRunBy, stored_statement, stored_formats, stored_entries}
 use Rattle.taco_top.specs.Written.{IsAccepted, HasResult, IsWritten, result_ranges}
 
--- a kernel that is right for the statement and its formats, in their loop order, and names the semiring
+-- a kernel that is right for the statement and its formats, in their loop order, and names the semiring. What is promised of its loops is
+-- said of the statement multiplied out
 pub record IsKernelOf (over : Values) (s : Statement) (formats : List (List FormatLevel)) (order : List ℕ) (kernel : Kernel) : Type 0 where
   pub is_order : IsOrder s formats order
-  pub compiled : IsCompiled over.arithmetic s formats order kernel
+  pub right : IsRightFor over.arithmetic s formats kernel
+  pub compiled : IsCompiled over.arithmetic (looped over.arithmetic s order) formats order kernel
   pub over_is : kernel.semiring ≡ semiring_of over.is_ring over.name
 
 -- a kernel that is right for the statement, as it is stored, runs on the operands, packed in their formats. It leaves the storage that

@@ -17,6 +17,7 @@ use Rattle.mode_planner.specs.declared.planned.Planned.{Planned}
 use Rattle.row_orders.specs.Heads.{result_levels}
 use Rattle.row_orders.specs.Takings.{calls_for_workspace, is_unordered}
 use Rattle.head_pairs.specs.Heads.{head_variables, pairs_at}
+use Rattle.kernel_correctness.specs.Kernels.{looped}
 use Rattle.kernel_correctness.specs.Stores.{Store, told_by}
 use Rattle.taco_compiler.specs.Compiled.{IsOrder}
 use Rattle.taco_compiler.specs.Tails.{HasLargeKey}
@@ -43,7 +44,8 @@ ranges_told s given operands = ranges_of s (given_at given) (bound_told (map (λ
 abbrev pub HeadsFit : Arithmetic → Statement → List (List FormatLevel) → List ℕ → List ℕ → List Entries → Type 0
 HeadsFit a s formats order ranges operands =
     (store : Store) → IsStoreFor a s formats ranges operands store → (coords : List ℕ)
-    → pairs_at s order (head_variables s order) coords (told_by a store) ≤ greatest_position_count
+    → pairs_at (looped a s order) order (head_variables (looped a s order) order) coords (told_by a (looped a s order) store)
+    ≤ greatest_position_count
 
 -- all points together don't, where some level of the result has no order; else no head does
 pub record WorkspacesFit (a : Arithmetic) (s : Statement) (formats : List (List FormatLevel)) (order ranges : List ℕ)
@@ -69,7 +71,8 @@ pub record IsWhole (over : Values) (words : List (List ℕ)) (holds : List ℕ �
       (stored_entries (map (λ operand. operand.entries) operands) plan)
   pub pairs_fit : (plan : Option Planned) → IsRunBy request plan → (order : List ℕ)
       → IsOrder (stored_statement request.statement plan) (stored_formats request.formats plan) order
-      → calls_for_workspace (stored_statement request.statement plan) (stored_formats request.formats plan) order ≡ true
-      → HasLargeKey (stored_statement request.statement plan) (stored_formats request.formats plan) order ranges
+      → calls_for_workspace (looped over.arithmetic (stored_statement request.statement plan) order) (stored_formats request.formats plan)
+      order ≡ true
+      → HasLargeKey (looped over.arithmetic (stored_statement request.statement plan) order) (stored_formats request.formats plan) order ranges
       → WorkspacesFit over.arithmetic (stored_statement request.statement plan) (stored_formats request.formats plan) order ranges
       (stored_entries (map (λ operand. operand.entries) operands) plan)

@@ -7,7 +7,7 @@ use Rattle.outside.specs.Sink.{SinkState}
 use Rattle.tensor_map.specs.Entries.{Entries}
 use Rattle.index_notation.specs.declared.syntax.Statement.{Statement}
 use Rattle.expr_terms.specs.Operands.{operand_values}
-use Rattle.expr_terms.specs.Terms.{statement_value}
+use Rattle.expr_terms.specs.Nested.{nested_value}
 use Rattle.expr_terms.specs.declared.bound.Bound.{Bound}
 use Rattle.operand_files.specs.Decoded.{operand_of}
 use Rattle.operand_files.specs.Reads.{OnlyReads, HaveRead, Decoding}
@@ -55,7 +55,7 @@ abbrev pub result_ranges : Statement → List ℕ → List ℕ
 result_ranges s ranges = map (slice_index ranges) s.left.vars
 
 abbrev pub result_value : Values → Statement → List Entries → List ℕ → List ℕ → ℕ
-result_value over s entries ranges = statement_value over.arithmetic s (operand_values over.arithmetic entries) (slice_index ranges)
+result_value over s entries ranges = nested_value over.arithmetic s (operand_values over.arithmetic entries) (slice_index ranges)
 
 -- the result of `run` or `auto` was written: the text of its values; `between` is the folder as it was when the writing began
 pub record IsWritten (over : Values) (words : List (List ℕ)) (files files' : FolderState) (out out' : SinkState) : Type 0 where

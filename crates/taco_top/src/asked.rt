@@ -1,22 +1,24 @@
 ghost use Rattle.std.specs.Prelude.{◌≡◌, ℕ, Bool, true, List, Some, None, map, string_bytes, IfOk, IfErr, OnOk, MatchResult, IsTrue};
-ghost use Rattle.index_notation.specs.Notation.{IsNotationOf};
+ghost use Rattle.notation_grammar.specs.Notation.{IsNotationOf};
 ghost use Rattle.index_notation.specs.Statement.{IsNumberedWithSums};
 ghost use Rattle.command_line.specs.CommandLine.{command_line_of};
 ghost use Rattle.command_line.specs.Told.{told};
 ghost use Rattle.bindings.specs.Tables.{file_in};
 ghost use Rattle.bindings.specs.Outcome.{Binds};
-ghost use Rattle.taco_top.specs.Asked.{Asks, AsksOf, IsRefusedByWords, IsLineRefused, IsTextRefused, IsBindingRefused};
+ghost use Rattle.taco_top.specs.Asked.{AreNamed, Asks, AsksOf, IsRefusedByWords, IsLineRefused, IsStatementRefused};
 ghost use Rattle.taco_top.specs.Work.{IsAsked, IsUnasked};
 ghost use Rattle.taco_top.specs.Exec.{AsksExec, AsksExecOf, IsExecRefused, exec_request};
-ghost use Rattle.taco_top.specs.Asked.{IsMinusRefused, needs_files, texts_in};
+ghost use Rattle.taco_top.specs.Asked.{IsBindingRefused, IsMinusRefused, needs_files, texts_in};
 ghost use Rattle.taco_top.specs.Values.{values_of};
-ghost use Rattle.expr_terms.specs.Minus.{HasMeaning};
+ghost use Rattle.nested_sums.specs.Pieces.{HasMeaningWithSums};
 ghost use Rattle.refusals.specs.declared.fault.Fault.TheVariants.{Named};
 
 use bindings::{BindingFault, Bindings, bind};
 use command_line::{Over, Request, RequestFault, Task, read_request};
-use expr_terms::{check_names, expand, has_meaning};
-use index_notation::{Expr, NotationFault, Statement};
+use expr_terms::{check_names, expand};
+use index_notation::Statement;
+use nested_sums::{check_sums, has_meaning_with_sums};
+use notation_grammar::NotationFault;
 use notation_reader::parse;
 use numbers::{Ring, Semiring};
 use refusals::{Fault, NamedFault};
@@ -79,7 +81,7 @@ fn reads_files(task: Task) -> bool
 /// The statement of a text, as the program's faults tell what it isn't.
 fn read_statement<'a>(alloc: Global, text: &str) -> Result<Statement, Fault<'a>>
     ensures statement { IfOk result (λ s. IsNotationOf text.now s × IsNumberedWithSums s) }
-    ensures refused { IfErr result (IsTextRefused text.now) }
+    ensures refused { IfErr result (IsStatementRefused text.now) }
 {
     match parse(alloc, text) {
         Ok(statement) => Ok(statement),
@@ -88,15 +90,31 @@ fn read_statement<'a>(alloc: Global, text: &str) -> Result<Statement, Fault<'a>>
     }
 }
 
-/// Whether a minus that may stand in an expression has a meaning over a semiring.
-fn has_meaning_over(over: Over, expr: &Expr) -> bool
-    ensures told { IsTrue result → HasMeaning (values_of over).has_minus expr.now }
-    ensures found { HasMeaning (values_of over).has_minus expr.now → IsTrue result }
+/// The statement that a text stands for, whose names are in order, as the program's faults tell what it isn't.
+fn named_statement<'a>(alloc: Global, text: &str) -> Result<Statement, Fault<'a>>
+    ensures statement { IfOk result (λ s. AreNamed text.now s × IsNumberedWithSums s) }
+    ensures refused { IfErr result (IsStatementRefused text.now) }
+{
+    let written = read_statement(alloc, text)?;
+    if let Err(fault) = check_names(&written) {
+        return Err(named(written, NamedFault::Name(fault)));
+    }
+    let statement = expand(alloc, written)?;
+    match check_sums(&statement) {
+        Ok(()) => Ok(statement),
+        Err(fault) => Err(named(statement, NamedFault::Name(fault))),
+    }
+}
+
+/// Whether each minus that stands in a statement, inside of its sums too, has a meaning over a semiring.
+fn has_meaning_over(over: Over, statement: &Statement) -> bool
+    ensures told { IsTrue result → HasMeaningWithSums (values_of over).has_minus statement.now }
+    ensures found { HasMeaningWithSums (values_of over).has_minus statement.now → IsTrue result }
 {
     match over {
-        Over::Ring => has_meaning::<Ring>(expr),
-        Over::MinPlus => has_meaning::<MinPlus>(expr),
-        Over::Bits => has_meaning::<Bits>(expr),
+        Over::Ring => has_meaning_with_sums::<Ring>(statement),
+        Over::MinPlus => has_meaning_with_sums::<MinPlus>(statement),
+        Over::Bits => has_meaning_with_sums::<Bits>(statement),
     }
 }
 
@@ -113,10 +131,10 @@ fn name_of(over: Over) -> &'static str
 
 /// Refused where a minus stands on the right of a statement, and the semiring has none.
 fn check_minus<'a>(over: Over, statement: &Statement) -> Result<(), Fault<'a>>
-    ensures meant { OnOk result (HasMeaning (values_of over).has_minus statement.now.expr) }
+    ensures meant { OnOk result (HasMeaningWithSums (values_of over).has_minus statement.now) }
     ensures refused { IfErr result (IsMinusRefused over statement.now) }
 {
-    if has_meaning_over(over, &statement.expr) {
+    if has_meaning_over(over, statement) {
         Ok(())
     } else {
         Err(Fault::NoMinus(name_of(over)))
@@ -170,14 +188,9 @@ fn ask_statement<'a>(
         (map file_in asked.bindings.files.entries) asked.bindings.ranges.items × IsNumberedWithSums asked.statement)
         (IsRefusedByWords all) }
 {
-    let statement = read_statement(alloc, text)?;
-    match check_names(&statement) {
-        Ok(()) => {
-            check_minus(over, &statement)?;
-            bind_names(alloc, task, over, expand(alloc, statement)?, words)
-        }
-        Err(fault) => Err(named(statement, NamedFault::Name(fault))),
-    }
+    let statement = named_statement(alloc, text)?;
+    check_minus(over, &statement)?;
+    bind_names(alloc, task, over, statement, words)
 }
 
 /// What a kernel's file is run for, where the words behind a statement, of which all tensors but the result need files, bind its names.
@@ -218,11 +231,8 @@ fn ask_execution<'a>(
     ensures { (all : List (List ℕ)) → AsksExecOf all path.entry.now budget text.now (texts_in words.now)
         → MatchResult result (λ e. AsksExec all (exec_request e) × IsNumberedWithSums e.statement) (IsExecRefused all) }
 {
-    let statement = read_statement(alloc, text)?;
-    match check_names(&statement) {
-        Ok(()) => bind_execution(alloc, path, budget, expand(alloc, statement)?, words),
-        Err(fault) => Err(named(statement, NamedFault::Name(fault))),
-    }
+    let statement = named_statement(alloc, text)?;
+    bind_execution(alloc, path, budget, statement, words)
 }
 
 /// What the words of the command line ask for, or the first refusal in order: of the command line, the statement's text, its

@@ -1,10 +1,11 @@
 //! What the words ask for, with its kernel.
-ghost use Rattle.std.specs.Prelude.{◌≡◌, ℕ, List, None, IfOk, IfErr, IfSome, true};
+ghost use Rattle.std.specs.Prelude.{◌≡◌, ◌≤◌, ℕ, List, None, IfOk, IfErr, IfSome, length, true};
 ghost use Rattle.lists.specs.Each.{Each};
 ghost use Rattle.kernel_code.specs.Semirings.{semiring_of};
-ghost use Rattle.expr_terms.specs.Minus.{HasMeaning};
+ghost use Rattle.nested_sums.specs.Bound.{HasNoBadSum};
+ghost use Rattle.nested_sums.specs.Pieces.{HasMeaningWithSums};
 ghost use Rattle.taco_top.specs.Values.{semiring, values_of};
-ghost use Rattle.index_notation.specs.Statement.{IsNumbered, IsNumberedWithSums, IsWellNamed};
+ghost use Rattle.index_notation.specs.Statement.{IsNumberedWithSums, IsWellNamed};
 ghost use Rattle.iteration_graph.specs.Edges.{HasFormat};
 ghost use Rattle.mode_planner.specs.Planned.{Answers as PlanAnswers, CanBeCompiled};
 ghost use Rattle.outside.specs.Folder.{FolderState};
@@ -63,12 +64,14 @@ fn compile_stored<S: Semiring>(
     formats: &[Format],
     plan: &Option<Planned>,
 ) -> Result<Compiled, CompileFault>
-    requires numbered { IsNumbered (stored_statement statement.now plan.now) }
+    requires numbered { IsNumberedWithSums (stored_statement statement.now plan.now) }
+    requires bound { HasNoBadSum (stored_statement statement.now plan.now) }
+    requires few { length (stored_formats formats.now plan.now) ≤ length (stored_statement statement.now plan.now).tensors }
     requires named { IsWellNamed statement.now }
     requires left { HasFormat formats.now statement.now.left }
     requires right { Each (HasFormat formats.now) statement.now.accesses }
     requires plan { IfSome plan.now (λ planned. CanBeCompiled planned.statement planned.formats) }
-    requires meant { HasMeaning S.has_minus (stored_statement statement.now plan.now).expr }
+    requires meant { HasMeaningWithSums S.has_minus (stored_statement statement.now plan.now) }
     ensures answers { Answers S.arithmetic (stored_statement statement.now plan.now) (stored_formats formats.now plan.now) result }
     ensures over { IfOk result (λ compiled. compiled.kernel.semiring ≡ semiring_of S.is_ring S.name) }
 {

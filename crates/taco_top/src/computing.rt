@@ -2,7 +2,7 @@
 ghost use Rattle.std.specs.Prelude.{◌≡◌, ℕ, List, Option, true, IfOk, IfErr, Vec};
 ghost use Rattle.std.specs.declared.alloc.Global.{Global as AGlobal};
 ghost use Rattle.taco_top.specs.Values.{Values, semiring};
-ghost use Rattle.kernel_correctness.specs.Kernels.{IsRightKernel};
+ghost use Rattle.kernel_correctness.specs.Kernels.{IsRightFor};
 ghost use Rattle.mode_planner.specs.Planned.{Answers};
 ghost use Rattle.operand_packing.specs.Runnable.{IsRunnable};
 ghost use Rattle.tensor_map.specs.Entries.{AreEntries, Entries};
@@ -88,7 +88,7 @@ fn run_stored<S: Semiring>(
 ) -> Result<KernelRun, RunFault>
     requires runnable { IsRunnable statement.now formats.now given.now operands.entries.items operands.bounds.items }
     requires plan { Answers statement.now formats.now plan.now }
-    requires right { IsRightKernel S.arithmetic (stored_statement statement.now plan.now) (stored_formats formats.now plan.now) kernel.now }
+    requires right { IsRightFor S.arithmetic (stored_statement statement.now plan.now) (stored_formats formats.now plan.now) kernel.now }
     ensures run { IfOk result (λ run. IsStoredRun (semiring S.arithmetic S.has_minus S.is_ring S.is_signed S.name) statement.now
         formats.now plan.now kernel.now given.now operands.entries.items operands.bounds.items run.shape run.entries run.tensor run.turns) }
     ensures entries { IfOk result (λ run. AreEntries run.entries) }

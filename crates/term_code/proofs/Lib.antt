@@ -3,5 +3,6 @@ pub mod OptionLaws
 pub mod Parts
 pub mod PlaceLaws
 pub mod PresenceLaws
+pub mod SumLaws
 pub mod TermLaws
 pub mod WorkspaceLaws

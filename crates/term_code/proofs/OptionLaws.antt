@@ -1,7 +1,8 @@
 -- What the code of values that may be absent does.
-use Rattle.std.specs.Prelude.{◌≡◌, ℕ, suc, ◌+◌, ◌≤◌, Bool, true, List, [], ◌∷◌, ◌++◌, Option, Some, None, slice_get, refl}
-use Rattle.std.proofs.Common.{◌∙◌, subst, arith}
+use Rattle.std.specs.Prelude.{◌≡◌, ℕ, suc, ◌+◌, ◌≤◌, Bool, true, false, List, [], ◌∷◌, ◌++◌, Option, Some, None, slice_get, refl}
+use Rattle.std.proofs.Common.{◌∙◌, sym, ap, subst, arith}
 use Rattle.numbers.specs.Arithmetic.{Arithmetic}
+use Rattle.kernel_code.specs.declared.syntax.Arr.{Arr}
 use Rattle.kernel_code.specs.declared.syntax.Arr.TheVariants.{Values}
 use Rattle.kernel_code.specs.declared.syntax.ValueOp.TheVariants.{Plus, Times}
 use Rattle.kernel_code.specs.declared.syntax.KExpr.{KExpr, Num, Var, At}
@@ -20,9 +21,9 @@ use Rattle.index_notation.specs.declared.operator.Operator.TheVariants as op
 use Rattle.expr_terms.specs.Value.{minus}
 use Rattle.loop_code.specs.Loops.{Env, Stored, word_of}
 use Rattle.loop_code.specs.PresentValues.{both, either, each, present_applied}
-use Rattle.term_code.specs.Places.{Places, AccessPlace, AreBelow, Keeps, HasValue, HasValues}
+use Rattle.term_code.specs.Places.{Places, AccessPlace, AreBelow, Keeps, HasValueOf, HasValues}
 use Rattle.term_code.specs.Options.{LeavesOption}
-use Rattle.term_code.specs.OptionCodes.{number_code, access_code, either_code, both_code, each_code}
+use Rattle.term_code.specs.OptionCodes.{number_code, access_code, either_code, both_code, each_code, value_at}
 use Rattle.term_code.specs.OptionCodes.{applied_code}
 use Rattle.term_code.proofs.PlaceLaws.{keeps_kept, values_kept}
 
@@ -144,6 +145,14 @@ pub number_leaves : (a : Arithmetic) (places : Places) (these : ℕ → Bool) (n
     → LeavesOption a places these (λ stored env. Some n) free (number_code n free)
 number_leaves a places these n free = λ c is stored bound env s keeps has. two_set c free n (Num n) s refl
 
+-- the value at an access's first position
+value_is : (stored : Stored) (k : ℕ) (is_sum : Bool) (tensor cursor position : ℕ) (s t : State) → ((b : Arr) → t.arrays b ≡ s.arrays b)
+    → t.vars (cursor + 1) ≡ Some position → HasValueOf is_sum stored tensor k position s
+    → value (value_at is_sum tensor cursor) t ≡ Some (stored.word k position)
+value_is stored k true tensor cursor position s t same lo h = lo ∙ ap Some (sym h)
+value_is stored k false tensor cursor position s t same lo h =
+    word_is (Values tensor) (Var (cursor + 1)) h.words position (stored.word k position) t (same (Values tensor) ∙ h.held) lo h.is
+
 module _ (a : Arithmetic) (places : Places) (these : ℕ → Bool) (free : ℕ) (are : AreBelow free places) where
   pub access_leaves : (k : ℕ) (p : AccessPlace) → these k ≡ true → slice_get places.accesses k ≡ Some p
       → LeavesOption a places these (λ stored env. word_of (stored.word k) (env.cursor k)) free (access_code p free)
@@ -154,19 +163,18 @@ module _ (a : Arithmetic) (places : Places) (these : ℕ → Bool) (free : ℕ) 
       low = are.accesses k p at
 
       by_cursor : (c : Setting) (stored : Stored) (s : State) (o : Option Span) → ChildLeft p.cursor o s
-          → ((span : Span) → o ≡ Some span → HasValue stored p.tensor k span.lo s)
+          → ((span : Span) → o ≡ Some span → HasValueOf p.is_sum stored p.tensor k span.lo s)
           → Reads c (access_code p free) free no_turns s (OptionLeft free (word_of (stored.word k) o))
       by_cursor c stored s None left has =
           else_read c free p.cursor _ _ s (OptionLeft free None) left
           (set_read c free free 0 (Num 0) s (OptionLeft free None) (omega arith) refl (this_var s free 0))
       by_cursor c stored s (Some span) left has =
-          let h = has span refl in
           let v = stored.word k span.lo in
           let t = set_var s free 1 in
           let lo : t.vars (p.cursor + 1) ≡ Some span.lo = other_var s free (p.cursor + 1) 1 (λ q. omega (arith, q, low)) ∙ left.1.lo in
           if_read c free p.cursor 0 _ _ s _ left.0
-          (two_set c free v (At (Values p.tensor) (Var (p.cursor + 1))) s
-          (word_is (Values p.tensor) (Var (p.cursor + 1)) h.words span.lo v t h.held lo h.is))
+          (two_set c free v (value_at p.is_sum p.tensor p.cursor) s
+          (value_is stored k p.is_sum p.tensor p.cursor span.lo s t (λ b. refl) lo (has span refl)))
 
   -- the second of two values beside the first one
   beside : (f g : Options) (x y : List KStmt) → LeavesOption a places these f free x → LeavesOption a places these g (free + 2) y

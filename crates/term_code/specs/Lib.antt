@@ -4,5 +4,6 @@ pub mod Options
 pub mod Places
 pub mod Presence
 pub mod SinkLaws
+pub mod SumSinks
 pub mod Terms
 pub mod WorkspaceSinks

@@ -1,8 +1,8 @@
 -- The code of values that may be absent: 1 and the value, or 0.
-use Rattle.std.specs.Prelude.{ℕ, ◌+◌, List, [], ◌∷◌, ◌++◌}
+use Rattle.std.specs.Prelude.{ℕ, ◌+◌, Bool, true, false, List, [], ◌∷◌, ◌++◌}
 use Rattle.kernel_code.specs.declared.syntax.Arr.TheVariants.{Values}
 use Rattle.kernel_code.specs.declared.syntax.ValueOp.TheVariants.{Plus, Times}
-use Rattle.kernel_code.specs.declared.syntax.KExpr.{Num, Var, At}
+use Rattle.kernel_code.specs.declared.syntax.KExpr.{KExpr, Num, Var, At}
 use Rattle.kernel_code.specs.declared.syntax.KStmt.{KStmt, Set, Combine, If}
 use Rattle.index_notation.specs.declared.operator.Operator.{Operator}
 use Rattle.index_notation.specs.declared.operator.Operator.TheVariants as op
@@ -11,9 +11,14 @@ use Rattle.term_code.specs.Places.{AccessPlace}
 abbrev pub number_code : ℕ → ℕ → List KStmt
 number_code n free = Set free (Num 1) ∷ Set (free + 1) (Num n) ∷ []
 
--- the value at an access's first position, where the access is present
+-- the value at an access's first position; that of a sum is the position
+abbrev pub value_at : (is_sum : Bool) → (tensor cursor : ℕ) → KExpr
+value_at true tensor cursor = Var (cursor + 1)
+value_at false tensor cursor = At (Values tensor) (Var (cursor + 1))
+
+-- the value of an access, where it is present
 abbrev pub access_code : AccessPlace → ℕ → List KStmt
-access_code p free = If (Var p.cursor) (Set free (Num 1) ∷ Set (free + 1) (At (Values p.tensor) (Var (p.cursor + 1))) ∷ [])
+access_code p free = If (Var p.cursor) (Set free (Num 1) ∷ Set (free + 1) (value_at p.is_sum p.tensor p.cursor) ∷ [])
     (Set free (Num 0) ∷ []) ∷ []
 
 -- of two values, one from free on and the other from free + 2 on, the sum where both are there, else the one that is

@@ -8,6 +8,7 @@ use Rattle.tns_io.proofs.PositionLaws.{below_long}
 use Rattle.result_targets.specs.Scratch.{SameButLists}
 use Rattle.result_targets.specs.Sinks.{SinkLaws}
 use Rattle.term_code.specs.DenseSinks.{HasSizes, by_level, dense_sink}
+use Rattle.term_code.specs.SumSinks.{sum_sink}
 use Rattle.term_code.specs.WorkspaceSinks.{workspace_sink}
 
 pub workspace_laws : SinkLaws workspace_sink
@@ -40,6 +41,16 @@ dense_laws = record {
     long = h.long;
     few = h.few;
     each = h.each;
+  };
+  more = λ k ranges rows others b count r. r;
+}
+
+pub sum_laws : SinkLaws sum_sink
+sum_laws = record {
+  long = λ k ranges rows row h. h;
+  same = λ k a ranges rows s t f g h. record {
+    there = f k.at (omega arith, omega arith) ∙ h.there;
+    total = f (k.at + 1) (omega arith, omega arith) ∙ h.total;
   };
   more = λ k ranges rows others b count r. r;
 }

@@ -12,6 +12,8 @@ use trees::Items;
 pub struct AccessPlace {
     pub cursor: u64,
     pub tensor: u64,
+    /// Whether the access is that of a sum: nothing is stored of it, and the first end of its span is its value.
+    pub is_sum: bool,
 }
 
 /// The kernel's variable of each variable of the statement, and the place of each access.
@@ -23,21 +25,23 @@ pub struct Places {
 
 impl Places {
     /// Places before all loops, of so many variables and of accesses of these tensors: each access is at the three variables
-    /// from `base` on. Refused only for want of memory.
+    /// from `base` on. Tensors from the number `real` on stand for sums. Refused only for want of memory.
     pub fn new(
         alloc: Global,
         variables: usize,
         tensors: &[u64],
+        real: u64,
         base: u64,
     ) -> Result<Places, AllocError>
         ensures variables { IfOk result (λ places. places.variables ≡ replicate variables base) }
-        ensures accesses { IfOk result (λ places. places.accesses ≡ map (new_access base) tensors.now) }
+        ensures accesses { IfOk result (λ places. places.accesses ≡ map (new_access base real) tensors.now) }
     {
         let mut accesses = Items::new(alloc);
         for tensor in tensors {
             accesses.push(AccessPlace {
                 cursor: base,
                 tensor: *tensor,
+                is_sum: real <= *tensor,
             })?;
         }
         Ok(Places {
@@ -75,6 +79,7 @@ impl Places {
             AccessPlace {
                 cursor,
                 tensor: old.tensor,
+                is_sum: old.is_sum,
             },
         );
     }

@@ -8,7 +8,7 @@ ghost use Rattle.loop_code.specs.PresentValues.{present_value};
 ghost use Rattle.term_code.specs.Places.{AreBelow};
 ghost use Rattle.term_code.specs.Options.{LeavesOption};
 ghost use Rattle.term_code.specs.OptionCodes.{number_code, access_code, either_code, both_code, each_code};
-ghost use Rattle.term_code.specs.OptionCodes.{applied_code};
+ghost use Rattle.term_code.specs.OptionCodes.{applied_code, value_at};
 
 use crate::places::{AccessPlace, Places};
 use index_notation::{Expr, Operator};
@@ -27,17 +27,26 @@ fn number(alloc: Global, n: u64, free: u64) -> Result<Items<KStmt>, AllocError>
     Ok(code)
 }
 
+/// The value of an access that is present.
+fn value_at(alloc: Global, place: AccessPlace) -> Result<KExpr, AllocError>
+    requires { place.cursor < 2 ^ 63 }
+    ensures { IfOk result (λ e. e ≡ value_at place.is_sum place.tensor place.cursor) }
+{
+    let first = KExpr::Var(place.cursor + 1);
+    if place.is_sum {
+        return Ok(first);
+    }
+    let word = word_at(alloc, Arr::Values(place.tensor), first)?;
+    Ok(word)
+}
+
 /// Leaves the value of an access, where it is present.
 fn access(alloc: Global, place: AccessPlace, free: u64) -> Result<Items<KStmt>, AllocError>
     requires cursor { place.cursor + 3 ≤ free }
     requires room { free ≤ 2 ^ 62 }
     ensures { IfOk result (λ code. code ≡ access_code place free) }
 {
-    let word = word_at(
-        alloc,
-        Arr::Values(place.tensor),
-        KExpr::Var(place.cursor + 1),
-    )?;
+    let word = value_at(alloc, place)?;
     let mut there = one_statement(alloc, KStmt::Set(free, KExpr::Num(1)))?;
     there.push(KStmt::Set(free + 1, word))?;
     let none = one_statement(alloc, KStmt::Set(free, KExpr::Num(0)))?;

@@ -122,10 +122,10 @@ module _ (a : Arithmetic) (laws : Laws a) (s : Statement) (formats : List (List 
   keys = left_in_order s in_order.order
 
   abbrev rows : List Entry
-  rows = rows_to a s formats (told_by a store) (stored_in (operands_in s store)) (left_in_order s in_order.order) loops
+  rows = rows_to a s formats (told_by a s store) (stored_in (operands_in s store)) (left_in_order s in_order.order) loops
 
   abbrev sums : List Entry
-  sums = sums_of a (rows_to a s formats (told_by a store) (stored_in (operands_in s store)) (left_in_order s in_order.order) loops)
+  sums = sums_of a (rows_to a s formats (told_by a s store) (stored_in (operands_in s store)) (left_in_order s in_order.order) loops)
 
   read : IsReadStore s formats store
   read = read_store a laws s formats f.sparse c in_order loops row_code words store is
@@ -352,7 +352,7 @@ module _ (a : Arithmetic) (laws : Laws a) (s : Statement) (formats : List (List 
 
   abbrev IsTold : KernelOutcome → Type 0
   IsTold o =
-      IsRightOutcome a s (told_by a store) store o × MakesTurns s (told_by a store) (letters_of store.format) most o
+      IsRightOutcome a s (told_by a s store) store o × MakesTurns s (told_by a s store) (letters_of store.format) most o
       × RefusesLevels k store o
 
   told : (o : KernelOutcome) → ToldOf (length store.format) IsEnd MayBe o → IsTold o

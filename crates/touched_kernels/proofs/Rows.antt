@@ -52,19 +52,19 @@ module _ (a : Arithmetic) (laws : Laws a) (s : Statement) (formats : List (List 
     (c : Concrete) (in_order : IsInOrder s formats c) (loops : LoopCode) (adds : AddsRows s formats c loops)
     (words : shapes.EachTerm (λ t. HasWords t.expr) loops) (store : Store) (is : IsStoreOf s formats store) where
   pub read_store : IsReadStore s formats store
-  read_store = record { numbered = f.numbered; named = f.named; read = f.read; is = is }
+  read_store = record { numbered = f.numbered; named = f.named; flat = f.flat; read = f.read; is = is }
 
   ordered : HasOrderedResult s formats
   ordered = record { numbered = f.numbered; named = f.named; left = f.left; format = f.format; some = f.some }
 
   abbrev rows : List Entry
-  rows = rows_to a s formats (told_by a store) (stored_in (operands_in s store)) (left_in_order s in_order.order) loops
+  rows = rows_to a s formats (told_by a s store) (stored_in (operands_in s store)) (left_in_order s in_order.order) loops
 
   abbrev sums : List Entry
   sums = sums_of a rows
 
   pub are_rows : AreRowsOfResult a s store (sums_of a
-      (rows_to a s formats (told_by a store) (stored_in (operands_in s store)) (left_in_order s in_order.order) loops))
+      (rows_to a s formats (told_by a s store) (stored_in (operands_in s store)) (left_in_order s in_order.order) loops))
   are_rows = loops_sum_to_result a laws s formats ordered store read_store c in_order loops adds words
 
   keys_many : length (left_in_order s in_order.order) ≡ length store.format
@@ -106,5 +106,5 @@ module _ (a : Arithmetic) (laws : Laws a) (s : Statement) (formats : List (List 
         (touches i (slice_get_within rows i row there)))
 
     pub takes_rows : TakesAll touched_sink k (ranges_on k store) []
-        (rows_to a s formats (told_by a store) (stored_in (operands_in s store)) (left_in_order s in_order.order) loops)
+        (rows_to a s formats (told_by a s store) (stored_in (operands_in s store)) (left_in_order s in_order.order) loops)
     takes_rows = takes_from k (ranges_on k store) [] rows each_touches

@@ -31,7 +31,7 @@ use Rattle.term_code.specs.declared.places.Places.{Places}
 use Rattle.term_code.specs.Places.{AreBelow, Keeps, StartsAt}
 use Rattle.kernel_correctness.specs.Kernels.{Ends, IsRightOutcome}
 use Rattle.kernel_correctness.specs.Stores.{Store, IsGiven, IsStoreOf, told_by}
-use Rattle.operand_arrays.specs.Apart.{AreFrom}
+use Rattle.operand_arrays.specs.Apart.{AreOutside}
 use Rattle.operand_arrays.specs.Operands.{stored_in, IsOfOperands}
 use Rattle.dense_results.specs.Kernels.{AreAtBase}
 use Rattle.dense_results.specs.Operands.{IsReadStore, ArrayStands, operands_in}
@@ -72,7 +72,7 @@ pub record IsAtTop (a : Arithmetic) (k : TouchedSink) (s : Statement) (formats :
     (places : Places) (st : State) : Type 0 where
   pub stands : ArrayStands s formats store places.accesses st.arrays
   pub keeps : Keeps places [] start st
-  pub from : AreFrom 0 places
+  pub from : AreOutside 0 0 places
   pub kept : (b : Arr) → IsOfOperands b → touched_sink.kept k b
   pub held : touched_sink.holds k a (ranges_on k store) [] st
 
@@ -86,10 +86,10 @@ pub record AddsFromTop (a : Arithmetic) (k : TouchedSink) (s : Statement) (forma
   pub most : Store → LoopKind → ℕ
   pub adds : (c : Setting) → c.arithmetic ≡ a → (store : Store) → IsReadStore s formats store
       → TakesAll touched_sink k (ranges_on k store) []
-      (rows_to a s formats (told_by a store) (stored_in (operands_in s store)) keys loops)
+      (rows_to a s formats (told_by a s store) (stored_in (operands_in s store)) keys loops)
       → (st : State) → IsAtTop a k s formats store places st → HasLists list past st
       → Adds (beside_lists touched_sink list past) k c (ranges_on k store) code free (most store) []
-      (rows_to a s formats (told_by a store) (stored_in (operands_in s store)) keys loops) st
+      (rows_to a s formats (told_by a s store) (stored_in (operands_in s store)) keys loops) st
 
 -- where the range is one of marks, a level alone is refused a growth
 abbrev pub RefusesLevels : TouchedSink → Store → KernelOutcome → Type 0
@@ -110,5 +110,5 @@ TouchedKernelsAreRight = (a : Arithmetic) → Laws a → (s : Statement) (format
     → (kernel : Kernel) → IsSinkOf a s formats kernel.workspaces k → g < kernel.lists → past ≤ kernel.lists
     → kernel.body ≡ (top ++ (begin ++ code)) ++ (summed ++ Extend (ListPositions g) (Len (Sums k.list)) (Num 0) ∷ drain)
     → (store : Store) → IsStoreOf s formats store → (arrays : Arrays) → IsGiven a.zero store arrays
-    → Ends a (length store.format) kernel arrays (λ outcome. IsRightOutcome a s (told_by a store) store outcome
-    × MakesTurns s (told_by a store) (letters_of store.format) (adds.most store) outcome × RefusesLevels k store outcome)
+    → Ends a (length store.format) kernel arrays (λ outcome. IsRightOutcome a s (told_by a s store) store outcome
+    × MakesTurns s (told_by a s store) (letters_of store.format) (adds.most store) outcome × RefusesLevels k store outcome)

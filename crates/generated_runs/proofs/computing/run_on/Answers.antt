@@ -4,7 +4,7 @@ use Rattle.limits.specs.Limits.{greatest_position_count}
 use Rattle.limits.proofs.Limits.{workloads_are_ranges}
 use Rattle.numbers.specs.Ring.{ring}
 use Rattle.operand_packing.specs.Runnable.{IsRunnable}
-use Rattle.kernel_correctness.specs.Kernels.{IsRightKernel}
+use Rattle.kernel_correctness.specs.Kernels.{IsRightFor}
 use Rattle.kernel_runs.specs.Runs.{MayRefuseRun}
 use Rattle.kernel_runs.proofs.Fits.{none_refused}
 use Rattle.generated_runs.specs.Workloads.{workload_statement, workload_formats}
@@ -37,5 +37,5 @@ memory_of-requires c =
 
 pub run_kernel-requires-clause-right : goal.run_kernel-requires-clause-right
 run_kernel-requires-clause-right c =
-    subst (λ s. IsRightKernel ring s c.args.formats.now c.args.kernel.now) (sym c.requires.statement)
-    (subst (λ formats. IsRightKernel ring workload_statement formats c.args.kernel.now) (sym c.requires.formats) c.requires.kernel.1.right)
+    subst (λ s. IsRightFor ring s c.args.formats.now c.args.kernel.now) (sym c.requires.statement)
+    (subst (λ formats. IsRightFor ring workload_statement formats c.args.kernel.now) (sym c.requires.formats) c.requires.right)

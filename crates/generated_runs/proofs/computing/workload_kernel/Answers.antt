@@ -1,18 +1,33 @@
-use Rattle.std.specs.Prelude.{Err}
+use Rattle.std.specs.Prelude.{◌≤◌, List, Err, length}
 use Rattle.std.proofs.Common.{sym, subst}
 use Rattle.lists.specs.Each.{Each}
 use Rattle.numbers.specs.Ring.{ring}
-use Rattle.index_notation.specs.Statement.{IsNumbered, IsWellNamed}
+use Rattle.format_spec.specs.declared.format.FormatLevel.{FormatLevel}
+use Rattle.index_notation.specs.Statement.{IsNumberedWithSums, IsWellNamed}
 use Rattle.index_notation.specs.declared.syntax.Statement.{Statement}
 use Rattle.iteration_graph.specs.Edges.{HasFormat}
 use Rattle.taco_compiler.specs.Compiled.{Answers, HasCycle, IsCompiled, IsOrder}
 use Rattle.generated_runs.specs.Workloads.{workload_statement}
 use Rattle.generated_runs.proofs.Cycles.{no_cycle}
-use Rattle.generated_runs.proofs.Facts.{numbered, named, left_format, right_formats}
+use Rattle.kernel_correctness.specs.Kernels.{IsRightFor, looped}
+use Rattle.nested_sums.specs.Bound.{HasNoBadSum}
+use Rattle.generated_runs.proofs.Facts.{few_formats, left_format, named, no_bad_sum, right_formats, written_numbered}
+use Rattle.generated_runs.proofs.Plain.{looped_workload}
 use Rattle.generated_runs.proofs.computing.workload_kernel.Goals as goal
 
 pub compile-requires-clause-numbered : goal.compile-requires-clause-numbered
-compile-requires-clause-numbered c = subst IsNumbered (sym c.requires.statement) numbered
+compile-requires-clause-numbered c = subst IsNumberedWithSums (sym c.requires.statement) written_numbered
+
+pub compile-requires-clause-bound : goal.compile-requires-clause-bound
+compile-requires-clause-bound c = subst HasNoBadSum (sym c.requires.statement) no_bad_sum
+
+pub compile-requires-clause-few : goal.compile-requires-clause-few
+compile-requires-clause-few c =
+    subst (λ (s : Statement). length c.args.formats.now ≤ length s.tensors) (sym c.requires.statement)
+    (subst (λ (formats : List (List FormatLevel)). length formats ≤ length workload_statement.tensors) (sym c.requires.formats) few_formats)
+
+pub compile-requires-clause-meant : goal.compile-requires-clause-meant
+compile-requires-clause-meant c = tt
 
 pub compile-requires-clause-named : goal.compile-requires-clause-named
 compile-requires-clause-named c = subst IsWellNamed (sym c.requires.statement) named
@@ -35,8 +50,15 @@ returns-in-Ok-clause-order c =
 pub returns-in-Ok-clause-kernel : goal.returns-in-Ok-clause-kernel
 returns-in-Ok-clause-kernel c =
     subst (λ formats. IsCompiled ring workload_statement formats c.in-Ok.compiled.order c.in-Ok.compiled.kernel) c.requires.formats
-    (subst (λ s. IsCompiled ring s c.args.formats.now c.in-Ok.compiled.order c.in-Ok.compiled.kernel) c.requires.statement
-    c.in-Ok.ensures.answers.1)
+    (subst (λ s. IsCompiled ring s c.args.formats.now c.in-Ok.compiled.order c.in-Ok.compiled.kernel)
+    (looped_workload ring c.in-Ok.compiled.order)
+    (subst (λ s. IsCompiled ring (looped ring s c.in-Ok.compiled.order) c.args.formats.now c.in-Ok.compiled.order c.in-Ok.compiled.kernel)
+    c.requires.statement c.in-Ok.ensures.answers.2))
+
+pub returns-in-Ok-clause-right : goal.returns-in-Ok-clause-right
+returns-in-Ok-clause-right c =
+    subst (λ formats. IsRightFor ring workload_statement formats c.in-Ok.compiled.kernel) c.requires.formats
+    (subst (λ s. IsRightFor ring s c.args.formats.now c.in-Ok.compiled.kernel) c.requires.statement c.in-Ok.ensures.answers.1)
 
 pub unreachable-requires : goal.unreachable-requires
 unreachable-requires c =

@@ -1,6 +1,6 @@
 use Rattle.std.specs.Prelude.{◌≡◌, ◌+◌, Ok, List, ℕ, length, slice_index_or}
 use Rattle.std.proofs.Common.{◌∙◌, sym, ap, subst, arith, rules}
-use Rattle.kernel_correctness.specs.Kernels.{IsRightKernel}
+use Rattle.kernel_correctness.specs.Kernels.{IsRightFor}
 use Rattle.operand_packing.specs.Drawn.{HaveOperands, drawn}
 use Rattle.operand_packing.specs.Operands.{AreOperands}
 use Rattle.operand_packing.specs.Runnable.{told_ranges}
@@ -225,8 +225,8 @@ run_packed-requires-clause-enough g c =
     let lent_is : drawn c.as_slice-origins.result.now c.as_mut_slice-entries.result.now ≡ drawn plan.origins operands =
     ap (λ origins. drawn origins c.as_mut_slice-entries.result.now) c.as_slice-origins.ensures
     ∙ ap (drawn plan.origins) c.as_mut_slice-entries.ensures.value in
-    let right : IsRightKernel a plan.statement formats c.args.kernel.now =
-    subst (λ fs. IsRightKernel a plan.statement fs c.args.kernel.now) back c.requires.right in
+    let right : IsRightFor a plan.statement formats c.args.kernel.now =
+    subst (λ fs. IsRightFor a plan.statement fs c.args.kernel.now) back c.requires.right in
     enough_lent a plan.statement formats (drawn plan.origins operands) are ranges fits
     c.deref.result.now c.deref.ensures.value (drawn c.as_slice-origins.result.now c.as_mut_slice-entries.result.now) lent_is
     g.met.S.Semiring.laws c.args.kernel.now right c.deref-3.result.now c.deref-3.ensures.value c.copied-format.result
@@ -254,8 +254,8 @@ run_packed-requires-clause-small g c =
     let lent_is : drawn c.as_slice-origins.result.now c.as_mut_slice-entries.result.now ≡ drawn plan.origins operands =
     ap (λ origins. drawn origins c.as_mut_slice-entries.result.now) c.as_slice-origins.ensures
     ∙ ap (drawn plan.origins) c.as_mut_slice-entries.ensures.value in
-    let right : IsRightKernel a plan.statement formats c.args.kernel.now =
-    subst (λ fs. IsRightKernel a plan.statement fs c.args.kernel.now) back c.requires.right in
+    let right : IsRightFor a plan.statement formats c.args.kernel.now =
+    subst (λ fs. IsRightFor a plan.statement fs c.args.kernel.now) back c.requires.right in
     small_lent a plan.statement formats (drawn plan.origins operands) are ranges fits
     c.deref.result.now c.deref.ensures.value (drawn c.as_slice-origins.result.now c.as_mut_slice-entries.result.now) lent_is
     g.met.S.Semiring.laws c.args.kernel.now right c.deref-3.result.now c.deref-3.ensures.value c.copied-format.result
@@ -283,8 +283,8 @@ run_packed-requires-clause-done g c =
     let lent_is : drawn c.as_slice-origins.result.now c.as_mut_slice-entries.result.now ≡ drawn plan.origins operands =
     ap (λ origins. drawn origins c.as_mut_slice-entries.result.now) c.as_slice-origins.ensures
     ∙ ap (drawn plan.origins) c.as_mut_slice-entries.ensures.value in
-    let right : IsRightKernel a plan.statement formats c.args.kernel.now =
-    subst (λ fs. IsRightKernel a plan.statement fs c.args.kernel.now) back c.requires.right in
+    let right : IsRightFor a plan.statement formats c.args.kernel.now =
+    subst (λ fs. IsRightFor a plan.statement fs c.args.kernel.now) back c.requires.right in
     done_lent a plan.statement formats (drawn plan.origins operands) are ranges fits
     c.deref.result.now c.deref.ensures.value (drawn c.as_slice-origins.result.now c.as_mut_slice-entries.result.now) lent_is
     g.met.S.Semiring.laws c.args.kernel.now right c.deref-3.result.now c.deref-3.ensures.value c.copied-format.result
@@ -313,8 +313,8 @@ run_packed-requires-clause-sound g c =
     let lent_is : drawn c.as_slice-origins.result.now c.as_mut_slice-entries.result.now ≡ drawn plan.origins operands =
     ap (λ origins. drawn origins c.as_mut_slice-entries.result.now) c.as_slice-origins.ensures
     ∙ ap (drawn plan.origins) c.as_mut_slice-entries.ensures.value in
-    let right : IsRightKernel a plan.statement formats c.args.kernel.now =
-    subst (λ fs. IsRightKernel a plan.statement fs c.args.kernel.now) back c.requires.right in
+    let right : IsRightFor a plan.statement formats c.args.kernel.now =
+    subst (λ fs. IsRightFor a plan.statement fs c.args.kernel.now) back c.requires.right in
     sound_lent a plan.statement formats (drawn plan.origins operands) are ranges fits
     c.deref.result.now c.deref.ensures.value (drawn c.as_slice-origins.result.now c.as_mut_slice-entries.result.now) lent_is
     g.met.S.Semiring.laws c.args.kernel.now right c.deref-3.result.now c.deref-3.ensures.value c.copied-format.result
@@ -343,8 +343,8 @@ returns-in-Ok-clause-run g c =
     let lent_is : drawn c.as_slice-origins.result.now c.as_mut_slice-entries.result.now ≡ drawn plan.origins operands =
     ap (λ origins. drawn origins c.as_mut_slice-entries.result.now) c.as_slice-origins.ensures
     ∙ ap (drawn plan.origins) c.as_mut_slice-entries.ensures.value in
-    let right : IsRightKernel a plan.statement formats c.args.kernel.now =
-    subst (λ fs. IsRightKernel a plan.statement fs c.args.kernel.now) back c.requires.right in
+    let right : IsRightFor a plan.statement formats c.args.kernel.now =
+    subst (λ fs. IsRightFor a plan.statement fs c.args.kernel.now) back c.requires.right in
     planned_run a s plan given operands bounds ranges told c.args.kernel.now runnable c.in-Ok.computed.shape c.in-Ok.computed.entries
     c.in-Ok.computed.tensor c.in-Ok.computed.turns
     (subst (λ fs. IsRunBy a plan.statement fs c.args.kernel.now ranges (drawn plan.origins operands) c.in-Ok.computed.shape
@@ -382,8 +382,8 @@ returns-clause-refused g c =
     let lent_is : drawn c.as_slice-origins.result.now c.as_mut_slice-entries.result.now ≡ drawn plan.origins operands =
     ap (λ origins. drawn origins c.as_mut_slice-entries.result.now) c.as_slice-origins.ensures
     ∙ ap (drawn plan.origins) c.as_mut_slice-entries.ensures.value in
-    let right : IsRightKernel a plan.statement formats c.args.kernel.now =
-    subst (λ fs. IsRightKernel a plan.statement fs c.args.kernel.now) back c.requires.right in
+    let right : IsRightFor a plan.statement formats c.args.kernel.now =
+    subst (λ fs. IsRightFor a plan.statement fs c.args.kernel.now) back c.requires.right in
     planned_refusal a s plan given operands bounds ranges told c.args.kernel.now c.in-Err.fault
     (subst (λ fs. RefusedBy a plan.statement fs c.args.kernel.now ranges (drawn plan.origins operands) c.in-Err.fault) (sym back)
     (refused_lent a plan.statement formats (drawn plan.origins operands) are ranges fits

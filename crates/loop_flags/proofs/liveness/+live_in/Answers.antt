@@ -1,9 +1,9 @@
-use Rattle.std.specs.Prelude.{◌<◌, length}
+use Rattle.std.specs.Prelude.{◌<◌, length, []}
 use Rattle.index_notation.specs.declared.syntax.Expr.{Binary, Neg}
 use Rattle.expr_terms.proofs.Heights.{falls, parts_of_binary, part_of_neg}
-use Rattle.term_code.specs.Presence.{Tells}
+use Rattle.loop_code.specs.Parts.{is_live}
 use Rattle.term_code.proofs.Parts.{first_side, second_side, negated_part}
-use Rattle.loop_code.specs.Parts.{here}
+use Rattle.loop_flags.specs.Told.{TellsOf}
 use Rattle.loop_flags.proofs.LiveLaws.{live_neg}
 use Rattle.loop_flags.proofs.FlagLaws.{if_flag, tells_part}
 use Rattle.loop_flags.proofs.FlagParts.{live_at, flag_sides}
@@ -51,7 +51,7 @@ in_sides-requires-clause-second t c =
 
 pub returns-in_ok-flag-in-Binary : goal.returns-in_ok-flag-in-Binary
 returns-in_ok-flag-in-Binary t c =
-    flag_sides c.args.places.now c.args.access c.args.expr.now c.in-Binary.operator c.in-Binary.first c.in-Binary.second
+    flag_sides c.args.places.now c.args.told.now c.args.access c.args.expr.now c.in-Binary.operator c.in-Binary.first c.in-Binary.second
     c.get-first.result.now c.get-second.result.now c.in_ok-x-in-Binary.x c.in_ok-y-in-Binary.y c.in_ok-flag-in-Binary.flag
     c.in-Binary.is c.get-first.ensures c.get-second.ensures
     c.in_ok-x-in-Binary.ensures c.in_ok-y-in-Binary.ensures c.in_ok-flag-in-Binary.ensures
@@ -59,8 +59,10 @@ returns-in_ok-flag-in-Binary t c =
 pub returns-in-Neg : goal.returns-in-Neg
 returns-in-Neg t c =
     let places = c.args.places.now in
+    let told = c.args.told.now in
     let k = c.args.access in
     let e = c.in-Neg.inner in
-    if_flag c.live_in-in-Neg.result (Tells places (live_at k c.get.result.now)) (Tells places (live_at k c.args.expr.now))
-    (λ x. tells_part places (live_at k) c.args.expr.now (Neg e) e c.get.result.now x c.in-Neg.is c.get.ensures
-    (λ env. live_neg (here env) e k)) c.live_in-in-Neg.ensures
+    if_flag c.live_in-in-Neg.result (TellsOf places told [] (λ P. is_live P c.get.result.now k))
+    (TellsOf places told [] (λ P. is_live P c.args.expr.now k))
+    (λ x h P are. tells_part places (live_at P k) c.args.expr.now (Neg e) e c.get.result.now x c.in-Neg.is c.get.ensures
+    (λ env. live_neg (P env) e k) (h P are)) c.live_in-in-Neg.ensures

@@ -1,6 +1,8 @@
-use Rattle.std.proofs.Common.{sym, subst}
+use Rattle.std.specs.Prelude.{◌≡◌, nat_eq, false}
+use Rattle.std.proofs.Common.{sym, subst, arith}
+use Rattle.std.proofs.lemmas.Bool.Decides.{nat_tests}
 use Rattle.loop_flags.specs.Liveness.{StandsAloneBelow}
-use Rattle.loop_flags.proofs.LiveLaws.{alone_loop, alone_both_first, alone_both_second}
+use Rattle.loop_flags.proofs.LiveLaws.{alone_loop, alone_both_first, alone_both_second, alone_sum}
 use Rattle.loop_flags.proofs.staying.+stands_alone_below.Goals as goal
 
 pub returns-in-Loop : goal.returns-in-Loop
@@ -20,3 +22,10 @@ returns-else-stands_alone_below t c = λ z.
     let k = c.args.access in
     subst (StandsAloneBelow k) (sym c.in-Both.is) (alone_both_second k c.in-Both.first c.in-Both.second
     (subst (StandsAloneBelow k) c.get-else-stands_alone_below.ensures (c.stands_alone_below-else-stands_alone_below.ensures z)))
+
+pub returns-then-sum-access : goal.returns-then-sum-access
+returns-then-sum-access t c = λ z.
+    let k = c.args.access in
+    let apart : nat_eq c.in-Sum.sum k ≡ false = grind (arith, nat_tests) in
+    subst (StandsAloneBelow k) (sym c.in-Sum.is) (alone_sum k c.in-Sum.sum c.in-Sum.inside c.in-Sum.body apart
+    (subst (StandsAloneBelow k) c.get-then-sum-access.ensures (c.stands_alone_below-then-sum-access.ensures z)))

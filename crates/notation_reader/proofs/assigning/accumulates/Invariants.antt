@@ -1,5 +1,5 @@
 use Rattle.std.proofs.Common.{◌≡◌, drop}
-use Rattle.index_notation.specs.Faults.{symbols_of}
+use Rattle.notation_grammar.specs.Faults.{symbols_of}
 use Rattle.notation_reader.specs.Assigning.{accumulates}
 use Rattle.notation_reader.proofs.assigning.accumulates.Given as goal
 

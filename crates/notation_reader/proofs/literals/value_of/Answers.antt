@@ -1,7 +1,7 @@
 use Rattle.std.proofs.Common.{◌≡◌, ℕ, ◌<◌, ◌≤◌, ◌+◌, ◌*◌, ◌-◌, List, [], ◌∷◌, length, drop, get_or, arith, ◌∙◌, ap}
 use Rattle.std.proofs.lemmas.List.{drop_more}
 use Rattle.limits.specs.Limits.{greatest_literal}
-use Rattle.index_notation.specs.Faults.{value_after}
+use Rattle.notation_grammar.specs.Faults.{value_after}
 use Rattle.notation_reader.proofs.literals.value_of.Goals as goal
 
 never_less : (n : ℕ) (digits : List ℕ) → n ≤ value_after n digits

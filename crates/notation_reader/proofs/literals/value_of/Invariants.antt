@@ -1,6 +1,6 @@
 use Rattle.std.proofs.Common.{◌≡◌, ◌≤◌, drop}
 use Rattle.limits.specs.Limits.{greatest_literal}
-use Rattle.index_notation.specs.Faults.{value_after}
+use Rattle.notation_grammar.specs.Faults.{value_after}
 use Rattle.notation_reader.proofs.literals.value_of.Given as goal
 
 abbrev pub invariant-loop-digit : goal.invariant-loop-digit

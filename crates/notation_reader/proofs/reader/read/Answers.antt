@@ -1,9 +1,10 @@
 use Rattle.std.proofs.Common.{◌≡◌, ℕ, ◌≤◌, ◌+◌, Option, Some, None, List, length, take, arith, sym, ◌∙◌, subst}
 use Rattle.std.proofs.lemmas.List.{take_all}
+use Rattle.limits.specs.Limits.{greatest_accesses}
 use Rattle.index_notation.specs.declared.syntax.Expr.{Expr}
-use Rattle.index_notation.specs.declared.symbol.PlacedSymbol.{PlacedSymbol}
-use Rattle.index_notation.specs.Faults.{symbols_of}
-use Rattle.index_notation.specs.TreeStatement.{sum_expr}
+use Rattle.notation_grammar.specs.declared.symbol.PlacedSymbol.{PlacedSymbol}
+use Rattle.notation_grammar.specs.Faults.{symbols_of}
+use Rattle.notation_grammar.specs.TreeStatement.{sum_expr}
 use Rattle.notation_reader.specs.declared.reader.Reader.{Reader}
 use Rattle.notation_reader.specs.Judging.{HasLast}
 use Rattle.notation_reader.proofs.ReadingSteps.{HasRead, IsWholeTree, read_first, read_more, read_minuses, fault_found, whole_tree}
@@ -15,6 +16,7 @@ loop-placed-init c = record {
   levels = omega (arith, c.new-reader.ensures.levels);
   minuses = omega (arith, c.new-reader.ensures.minuses);
   reads = omega (arith, c.new-reader.ensures.reads);
+  ends = omega (arith, c.new-reader.ensures.ends);
   built_minuses = omega (arith, c.new-reader.ensures.built_minuses);
 }
 
@@ -39,6 +41,8 @@ loop-placed-preserved c =
       minuses = minuses;
       reads = let a = c.loop-placed.invariant.reads in let b : c.in-Ok.next.builder.reads ≤ c.loop-placed.reader.builder.reads + 1 =
           (rw c.in-Ok.is at c.in_ok-next.ensures.reads) in omega (arith, a, b);
+      ends = let a = c.loop-placed.invariant.ends in let b : c.in-Ok.next.builder.ends ≤ c.loop-placed.reader.builder.ends + 1 =
+          (rw c.in-Ok.is at c.in_ok-next.ensures.ends) in omega (arith, a, b);
       built_minuses = let e = read_minuses (symbols_of (take (i + 1) c.args.symbols.now)) c.in-Ok.next read in omega (arith, e, minuses);
     }
 
@@ -55,7 +59,7 @@ pub unreachable-requires : goal.unreachable-requires
 unreachable-requires c =
     let w = whole c.args.symbols.now c.loop-placed.placed-index c.loop-placed.reader c.loop-placed-test.false c.requires
     c.loop-placed.invariant.has_read in
-    let both : ◌≡◌ {A = Option Expr} None (Some (sum_expr 0 w.tree.right)) = sym c.in-None.is ∙ w.expr in cc
+    let both : ◌≡◌ {A = Option Expr} None (Some (sum_expr 0 greatest_accesses w.tree.right)) = sym c.in-None.is ∙ w.expr in cc
 
 pub returns : goal.returns
 returns c =
@@ -65,7 +69,9 @@ returns c =
       w.is_tree,
       record {
         accesses = w.accesses;
+        vars = w.vars;
+        sums = w.sums;
         expr =
-            expr_is c.loop-placed.reader.builder.result c.in-Some.expr (sum_expr 0 w.tree.right) w.expr c.in-Some.is;
+            expr_is c.loop-placed.reader.builder.result c.in-Some.expr (sum_expr 0 greatest_accesses w.tree.right) w.expr c.in-Some.is;
       },
     )

@@ -1,5 +1,6 @@
-use Rattle.std.proofs.Common.{◌≤◌, take}
-use Rattle.index_notation.specs.Faults.{symbols_of}
+use Rattle.std.proofs.Common.{◌≤◌, ◌+◌, take}
+use Rattle.limits.specs.Limits.{greatest_accesses}
+use Rattle.notation_grammar.specs.Faults.{symbols_of}
 use Rattle.notation_reader.proofs.ReadingSteps.{HasRead}
 use Rattle.notation_reader.proofs.reader.read.Given as goal
 
@@ -9,5 +10,6 @@ invariant-loop-placed l = record {
   levels : l.reader.position.levels ≤ l.placed-index;
   minuses : l.reader.position.minuses ≤ l.placed-index;
   reads : l.reader.builder.reads ≤ l.placed-index;
+  ends : l.reader.builder.ends ≤ l.placed-index + greatest_accesses;
   built_minuses : l.reader.builder.frame.minuses ≤ l.placed-index;
 }

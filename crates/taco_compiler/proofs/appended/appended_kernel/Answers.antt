@@ -49,7 +49,8 @@ returns-clause-compiled g c =
     appended_compiled a g.met.S.Semiring.laws s formats order
     (record {
       ordered = ordered;
-      read = c.requires.ready.right;
+      flat = c.requires.ready.flat;
+      read = c.requires.ready.read;
       sorted = (neither (list_any is_unordered (result_levels s formats)) (list_any (is_inside_sum s order) (left_head s formats))
           c.requires.none).0;
     }) c.requires.none rows.loops rows.are sink

@@ -25,7 +25,7 @@ emit-requires-clause-places g c =
 pub emit-requires-clause-loops : goal.emit-requires-clause-loops
 emit-requires-clause-loops g c =
     loops_fit g.S.Semiring.has_minus c.args.statement.now c.args.formats.now c.args.order.now c.in_ok-loops.loops c.requires.ready.numbered
-    c.requires.meant c.in_ok-loops.ensures
+    c.requires.ready.flat c.requires.meant c.in_ok-loops.ensures
 
 pub returns-clause-compiled : goal.returns-clause-compiled
 returns-clause-compiled g c =
@@ -40,7 +40,8 @@ returns-clause-compiled g c =
       numbered = c.requires.ready.numbered;
       named = c.requires.ready.named;
       left = c.requires.ready.left;
-      read = c.requires.ready.right;
+      flat = c.requires.ready.flat;
+      read = c.requires.ready.read;
       dense = subst (λ t. AreAllDense (format_of formats t)) result c.requires.dense;
     }) c.args.order.now (dense_calls_for_none s formats c.args.order.now c.requires.dense) loops c.in_ok-loops.ensures sink
     (c.in_ok-sink.ensures ∙ ap (λ t. modes_of (format_of formats t)) result) places

@@ -50,7 +50,7 @@ emit_grouped-requires-clause-places g c =
 pub emit_grouped-requires-clause-loops : goal.emit_grouped-requires-clause-loops
 emit_grouped-requires-clause-loops g c =
     loops_fit g.S.Semiring.has_minus c.args.statement.now c.args.formats.now c.args.order.now c.in_ok-loops.loops c.requires.ready.numbered
-    c.requires.meant c.in_ok-loops.ensures
+    c.requires.ready.flat c.requires.meant c.in_ok-loops.ensures
 
 pub emit_grouped-requires-clause-keys : goal.emit_grouped-requires-clause-keys
 emit_grouped-requires-clause-keys g c = c.requires.keys ∙ ap length (sym (c.as_slice-target.ensures ∙ c.in_ok-left.ensures))

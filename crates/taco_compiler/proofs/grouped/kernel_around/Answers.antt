@@ -44,7 +44,7 @@ returns-clause-compiled g c =
       some = λ dense. c.requires.grouped.some (subst (λ t. AreAllDense (format_of formats t)) (sym result) dense);
     } in
     let for_appended : IsForAppended s formats =
-    record { ordered = ordered; read = c.requires.grouped.ready.right; sorted = c.requires.grouped.sorted } in
+    record { ordered = ordered; flat = c.requires.grouped.ready.flat; read = c.requires.grouped.ready.read; sorted = c.requires.grouped.sorted } in
     let levels = c.as_slice-levels.ensures in
     let top = subst (λ ls. StartsAt (sink.base + 4 * length ls) c.in_ok-body.body) levels c.in_ok-body.ensures in
     let begin = subst (λ ls. BeginsFirst (letters_of ls) (length ls) sink.base (length ls) c.in_ok-begin.begin) levels

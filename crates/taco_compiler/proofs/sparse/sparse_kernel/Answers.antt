@@ -19,7 +19,8 @@ returns-clause-compiled g c =
       numbered = c.requires.ready.numbered;
       named = c.requires.ready.named;
       left = c.requires.ready.left;
-      read = c.requires.ready.right;
+      flat = c.requires.ready.flat;
+      read = c.requires.ready.read;
       format = subst (λ t. IsFormat (format_of formats t)) result c.requires.ready.formed.0;
       some = λ dense. c.requires.some (subst (λ t. AreAllDense (format_of formats t)) (sym result) dense);
     }) c.args.order.now c.requires.called c.requires.unordered c.requires.several pushes.loops pushes.are pushes.places pushes.at c.in_ok-body.body c.in_ok-fill.fill pushed

@@ -45,7 +45,7 @@ emit-requires-clause-places g c =
 pub emit-requires-clause-loops : goal.emit-requires-clause-loops
 emit-requires-clause-loops g c =
     loops_fit g.S.Semiring.has_minus c.args.statement.now c.args.formats.now c.args.order.now c.in_ok-loops.loops c.requires.ready.numbered
-    c.requires.meant c.in_ok-loops.ensures
+    c.requires.ready.flat c.requires.meant c.in_ok-loops.ensures
 
 pub returns : goal.returns
 returns g c = record {

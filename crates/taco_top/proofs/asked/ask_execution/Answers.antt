@@ -1,20 +1,23 @@
-use Rattle.index_notation.specs.Statement.{IsNumberedWithSums}
 use Rattle.taco_top.specs.Asked.{texts_in}
-use Rattle.taco_top.specs.Exec.{ExecNames}
-use Rattle.taco_top.proofs.BoundNames.{executed_for}
+use Rattle.taco_top.specs.Exec.{ExecNames, IsExecRefused}
+use Rattle.taco_top.proofs.BoundNames.{executed_for, refused_as, unnamed_execution}
 use Rattle.taco_top.proofs.asked.ask_execution.Goals as goal
 
+-- the text stands for none
+pub returns-in_err-statement : goal.returns-in_err-statement
+returns-in_err-statement c = λ all line.
+    let why = c.in_err-statement.field-0.0 in
+    refused_as _ (IsExecRefused all) c.from_residual.result why c.from_residual.ensures.1
+    (unnamed_execution all c.args.path.now c.args.budget c.args.text.now (texts_in c.args.words.now) line why
+    c.in_err-statement.ensures.refused)
+
 -- the words ask for the statement that the written one stands for
-pub returns-in_ok-expand-in-Ok : goal.returns-in_ok-expand-in-Ok
-returns-in_ok-expand-in-Ok c = λ all line.
-    let names : ExecNames all c.args.path.now c.args.budget c.in_ok-expand-in-Ok.field-0 (texts_in c.args.words.now) = record {
+pub returns : goal.returns
+returns c = λ all line.
+    let names : ExecNames all c.args.path.now c.args.budget c.in_ok-statement.statement (texts_in c.args.words.now) = record {
       text = c.args.text.now;
       line = line;
-      written = c.in_ok-statement.statement;
-      notation = c.in_ok-statement.ensures.statement.0;
-      names = c.in-Ok.ensures;
-      stands_for = c.in_ok-expand-in-Ok.ensures.whole;
+      named = c.in_ok-statement.ensures.statement.0;
     } in
-    let numbered : IsNumberedWithSums c.in_ok-expand-in-Ok.field-0 = c.in_ok-expand-in-Ok.ensures.numbered in
-    executed_for all c.args.path.now c.args.budget c.in_ok-expand-in-Ok.field-0 (texts_in c.args.words.now) names numbered
-    c.bind_execution.result c.bind_execution.ensures
+    executed_for all c.args.path.now c.args.budget c.in_ok-statement.statement (texts_in c.args.words.now) names
+    c.in_ok-statement.ensures.statement.1 c.bind_execution.result c.bind_execution.ensures

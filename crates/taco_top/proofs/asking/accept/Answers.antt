@@ -1,13 +1,13 @@
 use Rattle.std.proofs.Common.{◌≡◌, refl, subst}
 use Rattle.std.specs.Prelude.{Err}
-use Rattle.expr_terms.specs.Minus.{HasMeaning}
+use Rattle.nested_sums.specs.Pieces.{HasMeaningWithSums}
 use Rattle.taco_compiler.specs.Compiled.{Answers}
 use Rattle.taco_compiler.specs.declared.compiled.CompileFault.TheVariants as compile
 use Rattle.taco_top.specs.Values.{Values, semiring}
 use Rattle.taco_top.specs.Run.{request_of}
 use Rattle.taco_top.specs.Stored.{stored_statement, stored_formats}
-use Rattle.taco_top.proofs.Accepted.{asked_meant, is_plain, well_named, left_has_format, right_have_formats}
-use Rattle.taco_top.proofs.Mended.{ordered, run_by, kernel_is, stored_meant, stored_numbered, cyclic}
+use Rattle.taco_top.proofs.Accepted.{asked_meant, each_format, is_bound, well_named, left_has_format, right_have_formats}
+use Rattle.taco_top.proofs.Mended.{ordered, run_by, kernel_is, stored_bound, stored_few, stored_meant, stored_numbered, cyclic}
 use Rattle.taco_top.proofs.asking.accept.Goals as goal
 
 pub mended-requires-clause-named : goal.mended-requires-clause-named
@@ -26,8 +26,19 @@ mended-requires-clause-right g c =
 pub compile_stored-requires-clause-numbered : goal.compile_stored-requires-clause-numbered
 compile_stored-requires-clause-numbered g c =
     stored_numbered (request_of c.args.asked) c.as_slice-formats.result.now c.as_slice-formats.ensures.value c.in_ok-plan.plan
-    c.in_ok-plan.ensures.unplanned c.in_ok-plan.ensures.planned c.requires.needs c.requires.numbered
-    (is_plain c.requires.asked.0 (request_of c.args.asked) c.requires.asked.1) c.in_ok-plan.ensures.compiled
+    c.in_ok-plan.ensures.unplanned c.in_ok-plan.ensures.planned c.requires.needs c.requires.numbered c.in_ok-plan.ensures.compiled
+
+pub compile_stored-requires-clause-bound : goal.compile_stored-requires-clause-bound
+compile_stored-requires-clause-bound g c =
+    stored_bound (request_of c.args.asked) c.as_slice-formats.result.now c.as_slice-formats.ensures.value c.in_ok-plan.plan
+    c.in_ok-plan.ensures.unplanned c.in_ok-plan.ensures.planned g.S.Semiring.arithmetic c.requires.needs c.requires.numbered
+    (is_bound c.requires.asked.0 (request_of c.args.asked) c.requires.asked.1 c.requires.numbered)
+
+pub compile_stored-requires-clause-few : goal.compile_stored-requires-clause-few
+compile_stored-requires-clause-few g c =
+    stored_few (request_of c.args.asked) c.as_slice-formats.result.now c.as_slice-formats.ensures.value c.in_ok-plan.plan
+    c.in_ok-plan.ensures.unplanned c.in_ok-plan.ensures.planned c.requires.needs
+    (each_format c.requires.asked.0 (request_of c.args.asked) c.requires.asked.1)
 
 pub compile_stored-requires-clause-named : goal.compile_stored-requires-clause-named
 compile_stored-requires-clause-named g c = well_named c.requires.asked.0 (request_of c.args.asked) c.requires.asked.1
@@ -47,7 +58,7 @@ compile_stored-requires-clause-meant g c =
     let asked = asked_meant c.requires.asked.0 (request_of c.args.asked) c.requires.asked.1 in
     stored_meant (request_of c.args.asked) c.as_slice-formats.result.now c.as_slice-formats.ensures.value c.in_ok-plan.plan
     c.in_ok-plan.ensures.unplanned c.in_ok-plan.ensures.planned g.S.Semiring.has_minus c.requires.needs
-    (subst (λ (v : Values). HasMeaning v.has_minus c.args.asked.statement.expr) c.requires.over asked)
+    (subst (λ (v : Values). HasMeaningWithSums v.has_minus c.args.asked.statement) c.requires.over asked)
 
 pub returns-in-Ok-clause-accepted : goal.returns-in-Ok-clause-accepted
 returns-in-Ok-clause-accepted g c = λ words asks. record {

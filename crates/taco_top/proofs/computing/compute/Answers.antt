@@ -1,5 +1,5 @@
 use Rattle.std.proofs.Common.{sym, subst, refl}
-use Rattle.kernel_correctness.specs.Kernels.{IsRightKernel}
+use Rattle.kernel_correctness.specs.Kernels.{IsRightFor}
 use Rattle.mode_planner.specs.Planned.{Answers}
 use Rattle.taco_top.specs.Values.{semiring}
 use Rattle.taco_top.specs.Stored.{stored_statement, stored_formats}
@@ -19,9 +19,9 @@ run_stored-requires-clause-runnable g c =
 
 pub run_stored-requires-clause-right : goal.run_stored-requires-clause-right
 run_stored-requires-clause-right g c =
-    subst (λ formats. IsRightKernel g.S.Semiring.arithmetic (stored_statement c.args.accepted.asked.statement c.args.accepted.plan)
+    subst (λ formats. IsRightFor g.S.Semiring.arithmetic (stored_statement c.args.accepted.asked.statement c.args.accepted.plan)
     (stored_formats formats c.args.accepted.plan) c.args.accepted.compiled.kernel)
-    (sym c.as_slice.ensures.value) c.requires.kernel.compiled.right
+    (sym c.as_slice.ensures.value) c.requires.kernel.right
 
 pub run_stored-requires-clause-plan : goal.run_stored-requires-clause-plan
 run_stored-requires-clause-plan g c =

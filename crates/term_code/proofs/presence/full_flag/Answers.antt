@@ -3,7 +3,7 @@ use Rattle.std.proofs.Common.{◌∙◌, sym, ap, subst}
 use Rattle.std.proofs.lemmas.Option.{slice_get-get_or}
 use Rattle.loop_code.specs.Parts.{here, is_full, is_iterator, is_other, is_some}
 use Rattle.index_notation.specs.declared.syntax.Expr.{Access}
-use Rattle.term_code.specs.Places.{AccessPlace}
+use Rattle.term_code.specs.Places.{AccessPlace, no_access}
 use Rattle.term_code.proofs.PresenceLaws.{tells_flag, tells_same}
 use Rattle.term_code.proofs.presence.full_flag.Goals as goal
 
@@ -12,7 +12,7 @@ returns c =
     let places = c.args.places.now in
     let seeks = c.args.seeks.now in
     let k = c.args.access in
-    let d : AccessPlace = record { cursor = 0; tensor = 0 } in
+    let d : AccessPlace = no_access in
     let p : AccessPlace = slice_index_or c.as_slice.result.now k d in
     let at : slice_get places.accesses k ≡ Some p =
     subst (λ ps. slice_get places.accesses k ≡ Some (slice_index_or ps k d)) (sym c.as_slice.ensures)

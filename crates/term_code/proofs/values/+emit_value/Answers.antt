@@ -7,7 +7,7 @@ use Rattle.expr_terms.proofs.Heights.{falls, parts_of_binary, part_of_neg}
 use Rattle.expr_terms.proofs.Meanings as meant
 use Rattle.loop_code.specs.Loops.{access_values}
 use Rattle.loop_code.specs.PresentValues.{present_value, present_applied, each}
-use Rattle.term_code.specs.Places.{AccessPlace}
+use Rattle.term_code.specs.Places.{AccessPlace, no_access}
 use Rattle.term_code.specs.Options.{LeavesOption}
 use Rattle.term_code.proofs.Parts.{first_side, second_side, negated_part, read_access, value_binary, value_neg}
 use Rattle.term_code.proofs.PlaceLaws.{below_more}
@@ -143,21 +143,18 @@ returns-in_ok-code-in-Num g t c = λ these stand.
     (subst (LeavesOption a places these (λ stored env. Some c.in-Num.n) free) (sym c.in_ok-code-in-Num.ensures)
     (number_leaves a places these c.in-Num.n free))
 
-abbrev none : AccessPlace
-none = record { cursor = 0; tensor = 0 }
-
 pub returns-in_ok-code-in-Access : goal.returns-in_ok-code-in-Access
 returns-in_ok-code-in-Access g t c = λ these stand.
     let a = g.S.Semiring.arithmetic in
     let places = c.args.places.now in
     let free = c.args.free in
     let k = c.in-Access.k in
-    let p : AccessPlace = slice_index_or c.as_slice.result.now k none in
+    let p : AccessPlace = slice_index_or c.as_slice.result.now k no_access in
     let within : k < length places.accesses = read_access
     (λ k. k < length places.accesses) c.args.expr.now k c.in-Access.is c.requires.placed in
     let at : slice_get places.accesses k ≡ Some p =
-    subst (λ ps. slice_get places.accesses k ≡ Some (slice_index_or ps k none)) (sym c.as_slice.ensures)
-    (slice_get-get_or places.accesses k none within) in
+    subst (λ ps. slice_get places.accesses k ≡ Some (slice_index_or ps k no_access)) (sym c.as_slice.ensures)
+    (slice_get-get_or places.accesses k no_access within) in
     subst (λ whole. LeavesOption a places these (λ stored env. present_value a (access_values stored env) whole) free
     c.in_ok-code-in-Access.code) (sym c.in-Access.is)
     (subst (LeavesOption a places these (λ stored env. access_values stored env k) free) (sym c.in_ok-code-in-Access.ensures)

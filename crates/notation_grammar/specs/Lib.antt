@@ -1,0 +1,5 @@
+pub mod Faults
+pub mod Grammar
+pub mod Notation
+pub mod Symbols
+pub mod TreeStatement
