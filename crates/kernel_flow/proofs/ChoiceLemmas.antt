@@ -88,11 +88,11 @@ gives_told fs gs new f test n h g t told =
     record { at = λ s all. told.at s (g.at s all).0 (t.at s all).0.same (h.at s all) }
 
 -- facts that are gone through, where a test is a number
-pub yield_pushed : (z : Fact) (ys gs new : List Fact) (f : Fact) → Gives (z ∷ ys) gs → new ≡ gs ++ f ∷ [] → Gives (z ∷ (ys ++ f ∷ [])) new
-yield_pushed z ys gs new f h is = record {
+pub yield_added : (z : Fact) (ys gs new : List Fact) (f : Fact) → Gives (z ∷ ys) gs → Gives (f ∷ gs) new → Gives (z ∷ (ys ++ f ∷ [])) new
+yield_added z ys gs new f h added = record {
   at = λ s all.
       let both = hold_apart ys (f ∷ []) s all.1 in
-      pushed_all gs new f s is (h.at s (all.0, both.0)) both.1.0;
+      added.at s (both.1.0, h.at s (all.0, both.0));
 }
 
 pub yield_joined : (test : KExpr) (ys gs new others : List Fact) (f : Fact) → Gives (is_value test 1 ∷ ys) gs → Joins f test others gs new
@@ -103,9 +103,9 @@ yield_joined test ys gs new others f h j = record {
       j.there s both.1.0 all.0 (h.at s (all.0, both.0));
 }
 
-pub other_pushed : (z : Fact) (fs gs new : List Fact) (f : Fact) → Gives (z ∷ fs) gs → Gives fs (f ∷ []) → new ≡ gs ++ f ∷ []
+pub other_added : (z : Fact) (fs gs new : List Fact) (f : Fact) → Gives (z ∷ fs) gs → Gives fs (f ∷ []) → Gives (f ∷ gs) new
     → Gives (z ∷ fs) new
-other_pushed z fs gs new f h g is = record { at = λ s all. pushed_all gs new f s is (h.at s all) (g.at s all.1).0 }
+other_added z fs gs new f h g added = record { at = λ s all. added.at s ((g.at s all.1).0, h.at s all) }
 
 pub other_joined : (test : KExpr) (fs gs new : List Fact) (f : Fact) → Gives (is_value test 0 ∷ fs) gs → Joins f test fs gs new
     → Gives (is_value test 0 ∷ fs) new
@@ -115,6 +115,10 @@ pub gives_with : (fs gs : List Fact) (z : Fact) → Gives fs (z ∷ []) → Give
 gives_with fs gs z h g = record { at = λ s all. g.at s ((h.at s all).0, all) }
 
 module _ {A : Type 0} where
+  pub gives_added : (r : Result A AllocError) (fs new : List Fact) (f : Fact) → OnOk r (new ≡ fs ++ f ∷ []) → OnOk r (Gives (f ∷ fs) new)
+  gives_added (Ok done) fs new f is = record { at = λ s all. pushed_all fs new f s is all.1 all.0 }
+  gives_added (Err why) fs new f is = tt
+
   pub same_pushed : (r : Result A AllocError) (fs new : List Fact) (a b : KExpr) (f : Fact) → OnOk r (new ≡ fs ++ f ∷ []) → f.left ≡ a
       → f.right ≡ b → Mentions AnyVariable IsReadOnly a → Mentions AnyVariable IsReadOnly b → OnOk r (WhereSame a b fs new)
   same_pushed (Ok done) fs new a b f is l r m n =

@@ -4,7 +4,7 @@ ghost use Rattle.kernel_flow.specs.Facts.{Gives};
 ghost use Rattle.kernel_flow.specs.Choices.{Joins, Sides, Tells, WhereSame, is_value};
 
 use crate::exprs::is_fixed;
-use crate::facts::{Fact, Shared, add_fact, common, place_among};
+use crate::facts::{Fact, Shared, add_fact, common, is_among_first, place_among};
 use crate::marks::mark_of;
 use kernel_code::{KExpr, Op, binary, copy_expr};
 use simplifier::{is_number, same_expr};
@@ -176,6 +176,19 @@ fn add_joined(
     }
 }
 
+/// Adds a fact, unless it stands among the first of these facts already: what the bodies leave together with the test may have been known
+/// before the choice. Each list holds it once, or it would be there twice as often behind each choice of that test. Refused only for want
+/// of memory.
+fn add_unless_among(facts: &mut Items<Shared>, fact: Shared, first: usize) -> Result<(), AllocError>
+    ensures { OnOk result (Gives (fact ∷ facts.old) facts.new) }
+{
+    if is_among_first(&fact, facts.as_slice(), first) {
+        drop(fact);
+        return Ok(());
+    }
+    facts.push(fact)
+}
+
 /// What is known behind a choice whose test is still 1 behind the one body and 0 behind the other: what is known behind both, and what
 /// the bodies leave together with the test.
 fn under_test(
@@ -189,12 +202,14 @@ fn under_test(
 {
     let mut out = Items::new(alloc);
     let mut next = 0;
+    let mut joined = 0;
     for fact in there.into_vec() {
         if let Some(at) = place_among(&fact, elsewhere, next) {
-            out.push(fact)?;
+            add_unless_among(&mut out, fact, joined)?;
             next = at + 1;
         } else {
             add_joined(alloc, &mut out, fact.get(), test, elsewhere)?;
+            joined = out.len();
             drop(fact);
         }
     }

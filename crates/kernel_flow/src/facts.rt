@@ -150,6 +150,16 @@ fn place_from(fact: &Shared, facts: &[Shared], from: usize) -> Option<usize>
     None
 }
 
+/// Whether a fact stands among the first of some facts.
+pub(crate) fn is_among_first(fact: &Shared, facts: &[Shared], count: usize) -> bool {
+    for other in facts.iter().take(count) {
+        if other.is_same(fact) {
+            return true;
+        }
+    }
+    false
+}
+
 /// Where a fact stands among facts, looked for first where the next one is likely to stand.
 pub(crate) fn place_among(fact: &Shared, facts: &[Shared], next: usize) -> Option<usize>
     ensures { IfSome result (IsPlaceOf fact.now facts.now) }
