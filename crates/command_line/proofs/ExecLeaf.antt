@@ -82,7 +82,8 @@ never_fine (p ∷ n ∷ e ∷ xs) w ws f = f
 
 -- the word passes, and the walk goes on from there
 abbrev Turns : Walk → Text → Walk → Type 0
-Turns from w next = (walked exec_rules [] from w ≡ next) × (turn_fault exec_shape [] from w ≡ []) × (turn_passes exec_shape [] from w ≡ true)
+Turns from w next = (walked exec_rules [] from w ≡ next) × (turn_fault exec_shape [] from w ≡ [])
+    × (turn_passes exec_shape [] from w ≡ true)
 
 -- the word fails with this, and doesn't pass
 abbrev Refused : Walk → Text → ErrorKind → Type 0

@@ -10,7 +10,8 @@ use Rattle.clap.proofs.WalkLemmas.{both}
 use Rattle.limits.specs.Limits.{greatest_workload}
 use Rattle.command_line.specs.declared.Task.{Task}
 use Rattle.command_line.specs.declared.Task.TheVariants.{Run, Kernel, Report, Auto, Plan}
-use Rattle.command_line.specs.CommandLine.{CommandLine, Statement, Workload, Exec, greatest_budget, is_number, number_in, operands, size_line}
+use Rattle.command_line.specs.CommandLine.{CommandLine, Statement, Workload, Exec, greatest_budget, is_number}
+use Rattle.command_line.specs.CommandLine.{number_in, operands, size_line}
 use Rattle.command_line.specs.CommandLine.{Behind, statement_line, over_line, plan_line, words_from, workload_line, budget_line, exec_line}
 use Rattle.command_line.specs.CommandLine.{line_of_command, command_line_of}
 use Rattle.command_line.specs.declared.Over.{Over}

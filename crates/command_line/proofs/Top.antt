@@ -481,7 +481,8 @@ module _ (parser : ValueParser) (takes_names : TakesNames parser) where
         go : (r : Bool) → bytes_eq (codes "run") c ≡ r → (k : Bool) → bytes_eq (codes "kernel") c ≡ k
             → (p : Bool) → bytes_eq (codes "report") c ≡ p → (t : Bool) → bytes_eq (codes "auto") c ≡ t
             → (l : Bool) → bytes_eq (codes "plan") c ≡ l
-            → (g : Bool) → bytes_eq (codes "gen") c ≡ g → (x : Bool) → bytes_eq (codes "exec") c ≡ x → LineIs (n ∷ c ∷ rest) (line_of_command c rest)
+            → (g : Bool) → bytes_eq (codes "gen") c ≡ g → (x : Bool) → bytes_eq (codes "exec") c ≡ x
+            → LineIs (n ∷ c ∷ rest) (line_of_command c rest)
         go true a k b p d t h l f g e x y = rw a (for_task (codes "run") Run (stops_run c a) (inside_run rest) (λ rows. refl))
         go false a true b p d t h l f g e x y =
             rw (a, b) (for_task (codes "kernel") Kernel (stops_kernel c a b) (inside_kernel rest) (λ rows. refl))

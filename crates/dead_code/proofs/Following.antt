@@ -176,7 +176,8 @@ module _ (A : Tie) (a : Arr) where
   pub put_alike : (i e j f : KExpr) (c : Setting) (n : ℕ) (s : State) (w : Vars) → value j (with_vars s w) ≡ value i s
       → value f (with_vars s w) ≡ value e s → A s.vars w → EndsAlike A (run c n (Put a i e) s) (run c n (Put a j f) (with_vars s w))
   put_alike i e j f c n s w index item h =
-      with_alike A s w (value i s) (value j (with_vars s w)) (λ m. with_value s (value e s) (λ v. with_array s a (changed s a m (λ old. v))))
+      with_alike A s w (value i s) (value j (with_vars s w))
+      (λ m. with_value s (value e s) (λ v. with_array s a (changed s a m (λ old. v))))
       (λ m. with_value (with_vars s w) (value f (with_vars s w)) (λ v.
       with_array (with_vars s w) a (changed (with_vars s w) a m (λ old. v))))
       index

@@ -101,7 +101,8 @@ agree_unset live x m v w dead h = record {
 
 module _ (live : List Bool) (e f g h : KExpr) (x : ℕ) (v : KExpr) (j k : KExpr) (dead : is_live live x ≡ false) (first : PutIn x v g j)
     (second : PutIn x v h k) where
-  back : (s : State) (m : ℕ) → value v s ≡ Some m → (o : Outcome) → ReadsBackTo live e f g h (set_var s x m) o → ReadsBackTo live e f j k s o
+  back : (s : State) (m : ℕ) → value v s ≡ Some m → (o : Outcome) → ReadsBackTo live e f g h (set_var s x m) o
+      → ReadsBackTo live e f j k s o
   back s m is (Ended t) r = record {
     is = r.is;
     agree = agree_unset live x m t.vars s.vars dead r.agree;

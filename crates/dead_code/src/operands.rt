@@ -57,8 +57,8 @@ fn parts(e: &KExpr) -> usize {
     }
 }
 
-/// Whether a value may stand where a variable is read once, in operands of so many parts: a coordinate, which keeps its name, only where the
-/// variable is the one operand, and nothing that makes them too long.
+/// Whether a value may stand where a variable is read once, in operands of so many parts: a coordinate, which keeps its name, only where
+/// the variable is the one operand, and nothing that makes them too long.
 fn may_stand(e: &KExpr, both: usize) -> bool {
     let named = both > 2 && matches!(e, KExpr::At(Arr::Coordinates(_, _), _));
     !named && both.saturating_add(parts(e)) <= MOST_PARTS

@@ -275,7 +275,8 @@ module _ (c : Setting) (list top : ℕ) (coord : List KStmt) (segment : Span) (a
         let many = sorted.many in
         let few = placed_few segment.lo segment.hi all placed in
         does_sort c list [] t t2 Ready Never
-        (sym (sort_done t t2 list cs ps (t.arrays (ListCoordinates list)) (t.arrays (ListPositions list)) g.rows.coordinates g.rows.positions
+        (sym (sort_done t t2 list cs ps (t.arrays (ListCoordinates list)) (t.arrays (ListPositions list)) g.rows.coordinates
+        g.rows.positions
         long refl))
         (does_nothing c t2 Ready Never (
           record {

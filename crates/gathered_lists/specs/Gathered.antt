@@ -32,8 +32,9 @@ width_below means l parent = (means.segment_of l parent).hi - (means.segment_of 
 abbrev pub Fills : Setting → List KStmt → ℕ → ℕ → (LoopKind → ℕ) → State → List Entry → Type 0
 Fills c code list top most s es = Runs c code top (IsOffList list) most s (HoldsEntries list es) Never
 
--- Where the flag isn't 0 the code leaves all entries below a parent, whose two ends are given, of a level that the arrays hold, in the list,
--- in increasing order of their coordinates, with one turn for each position of the segment at most. Where the flag is 0 it leaves none.
+-- Where the flag isn't 0 the code leaves all entries below a parent, whose two ends are given, of a level that the arrays hold, in the
+-- list, in increasing order of their coordinates, with one turn for each position of the segment at most. Where the flag is 0 it leaves
+-- none.
 pub record Gathers {L : Type 0} (means : Meaning L) (letter : Letter) (tensor level list top : ℕ) (flag : KExpr) (parent : List KExpr)
     (code : List KStmt) : Type 0 where
   pub off : (c : Setting) (s : State) → value flag s ≡ Some 0 → HasList list s → Fills c code list top no_turns s []

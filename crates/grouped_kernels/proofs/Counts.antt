@@ -141,7 +141,8 @@ module _ (a : Arithmetic) (s : Statement) (formats : List (List FormatLevel)) (t
     sums_few (v ∷ vs) bound depth (Both' p f q g) env placed chain = absurd chain
     sums_few (v ∷ vs) bound depth (Add t) env placed chain = absurd chain
     sums_few (v ∷ vs) bound depth (Sum' k p inside q body) env placed chain =
-        subst (λ rows. sums_in a s formats tail o ranges (v ∷ vs) body (at_cursor env k (kept_sum a s formats tail o ranges k inside body env))
+        subst (λ rows. sums_in a s formats tail o ranges (v ∷ vs) body
+        (at_cursor env k (kept_sum a s formats tail o ranges k inside body env))
         ≤ length (sums_of a rows)) (kept_rows ((v ∷ vs) ++ tail) k inside body env)
         (sums_few_in (v ∷ vs) bound depth body (at_cursor env k (kept_sum a s formats tail o ranges k inside body env)) placed.3 chain)
 

@@ -196,7 +196,8 @@ module _ (a : Arithmetic) (laws : Laws a) (s : Statement) (formats : List (List 
 
     deep : k.head ≤ length sizes
     deep =
-        let within_levels = (subst (λ (levels : List FormatLevel). IsHead (letters_of levels) k.head) (sym is.format_is) fits.head).within in
+        let within_levels = (subst (λ (levels : List FormatLevel). IsHead (letters_of levels) k.head) (sym is.format_is)
+        fits.head).within in
         omega (arith, within_levels, letters_many, sizes_many)
 
     tail_is : ranges_of g.modes.now store.ranges ≡ drop g.first sizes
@@ -233,8 +234,10 @@ module _ (a : Arithmetic) (laws : Laws a) (s : Statement) (formats : List (List 
           → MayBeRefused a s store Allowed b count
       passed_sums b count r =
           let here = subst (λ (levels : List FormatLevel).
-          RefusesSome (letters_of levels) (in_level_order levels store.ranges) k.head (sums_of r.a r.first) b count) same_levels r.refused in
-          let p = refused_passes (letters_of store.format) sizes k.head (sums_of r.a r.first) b count here (tables.table_of (sums_of a rows))
+          RefusesSome (letters_of levels) (in_level_order levels store.ranges) k.head (sums_of r.a r.first) b count) same_levels
+          r.refused in
+          let p = refused_passes (letters_of store.format) sizes k.head (sums_of r.a r.first) b count here
+          (tables.table_of (sums_of a rows))
           names in
           record {
             right = levels_may_pass a s store (sums_of a rows) (are_rows a laws s formats c in_order f loops l store is) p.level b count
@@ -271,7 +274,8 @@ module _ (a : Arithmetic) (laws : Laws a) (s : Statement) (formats : List (List 
       passed_group b count r =
           let p = from.workspace.passes (ranges_of g.modes.now store.ranges) r.group b count r.refused in
           record {
-            right = workspaces_may_pass a laws s formats store (read_store a laws s formats c in_order f loops l store is) not_dense c in_order
+            right = workspaces_may_pass a laws s formats store (read_store a laws s formats c in_order f loops l store is) not_dense
+                c in_order
                 loops l.rows keys p.0 b count (record {
                   array = p.1.array;
                   above = p.1.above;
@@ -289,7 +293,8 @@ module _ (a : Arithmetic) (laws : Laws a) (s : Statement) (formats : List (List 
                 many =
                     let most_of = p.1.within in
                     let held = (told s formats store (read_store a laws s formats c in_order f loops l store is) a laws).held in
-                    let few = groups_are_few s formats c in_order loops l.rows a laws (told_by a s store) (stored_in (operands_in s store)) held
+                    let few = groups_are_few s formats c in_order loops l.rows a laws (told_by a s store)
+                    (stored_in (operands_in s store)) held
                     keys r.front r.before r.group r.rest r.is in
                     let same = ap (λ n. pairs_at s in_order.order (take n keys) r.front (told_by a s store)) r.long in
                     omega (arith, most_of, few, same);

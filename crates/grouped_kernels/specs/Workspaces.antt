@@ -21,8 +21,8 @@ use Rattle.grouped_loops.specs.Grouped.{ranges_of}
 use Rattle.touched_workspaces.specs.Sizes.{greatest_marked_range}
 
 -- a workspace that is drained into a result that rows are appended to: it takes all rows below ranges of its keys, is refused a growth only
--- where a kernel's workspace would hold more pairs than it may (of one key only where the key's range is too large for marks), and leaves the
--- operands
+-- where a kernel's workspace would hold more pairs than it may (of one key only where the key's range is too large for marks), and leaves
+-- the operands
 pub record IsWorkspace {W : Type 0} (within : Sink W) (drains : Draining W) (w : W) : Type 0 where
   pub laws : DrainingLaws within drains
   pub takes : (ranges : List ℕ) → length ranges ≡ within.keys w → TakesRows within w ranges
@@ -33,8 +33,8 @@ pub record IsWorkspace {W : Type 0} (within : Sink W) (drains : Draining W) (w :
   pub operands : (b : Arr) → IsOfOperands b → within.kept w b
   pub beside : (k : AppendedSink) → AreBeside appended_sink k within w
 
--- where the workspaces of a kernel, which have these numbers of keys, have no rows, the code leaves that this one holds none, whose keys are
--- coordinates of these modes
+-- where the workspaces of a kernel, which have these numbers of keys, have no rows, the code leaves that this one holds none, whose keys
+-- are coordinates of these modes
 abbrev pub BeginsEmpty : {W : Type 0} → Sink W → W → List ℕ → Statement → List ℕ → Arithmetic → List KStmt → Type 0
 BeginsEmpty within w modes s spaces a code =
     (c : Setting) → c.arithmetic ≡ a → (ranges : List ℕ) (st : State) → HasRanges s (slice_index ranges) st.arrays → HaveNoRows spaces st

@@ -31,7 +31,8 @@ EndsLonger a many (Stuck t statement) = Unit {0}
 EndsLonger a many (Over t b count) = Unit {0}
 EndsLonger a many More = Unit {0}
 
-either : (a : Arr) (many : ℕ) (b : Bool) (x y : Outcome) → EndsLonger a many x → EndsLonger a many y → EndsLonger a many (if b then x else y)
+either : (a : Arr) (many : ℕ) (b : Bool) (x y : Outcome) → EndsLonger a many x → EndsLonger a many y
+    → EndsLonger a many (if b then x else y)
 either a many true x y h g = h
 either a many false x y h g = g
 
@@ -185,7 +186,8 @@ module _ (a : Arr) (apart : is_scratch a ≡ false) (many : ℕ) (c : Setting) (
     run_longer (SortSum w) st l =
         sort_sum_longer a many c.arithmetic st w (slice_get c.workspaces w) (st.arrays (Sums w)) apart l
     run_longer (If' e p first q second) st l =
-        choice_longer a many st (value e st) (behind 1 (run_row c n first st)) (behind (1 + statements_in_row first) (run_row c n second st))
+        choice_longer a many st (value e st) (behind 1 (run_row c n first st))
+        (behind (1 + statements_in_row first) (run_row c n second st))
         (behind_longer a many 1 (run_row c n first st) (row_longer first st l))
         (behind_longer a many (1 + statements_in_row first) (run_row c n second st) (row_longer second st l))
     run_longer (While' k e p body) st l =

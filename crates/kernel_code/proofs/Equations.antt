@@ -59,7 +59,8 @@ pub run_if : (c : Setting) (n : ℕ) (e : KExpr) (first second : List KStmt) (s 
     ≡ choice s (value e s) (behind 1 (run_list c n first s)) (behind (1 + statements_in_list first) (run_list c n second s))
 run_if c n e first second s =
     ap (λ go. choice s (value e s) (behind 1 (go s))
-    (behind (1 + statements_in_row (hidden-the_row-KStmt-0 first)) (run_row c n (hidden-the_row-KStmt-0 second) s))) (held_is_list c n first)
+    (behind (1 + statements_in_row (hidden-the_row-KStmt-0 first)) (run_row c n (hidden-the_row-KStmt-0 second) s)))
+    (held_is_list c n first)
     ∙ ap (λ k. choice s (value e s) (behind 1 (run_list c n first s)) (behind (1 + k) (run_row c n (hidden-the_row-KStmt-0 second) s)))
     (held_counts_list first)
     ∙ ap (λ go. choice s (value e s) (behind 1 (run_list c n first s)) (behind (1 + statements_in_list first) (go s)))
@@ -73,4 +74,5 @@ run_while c n k e body s = ap (λ go. run_turns n k (value e) (λ s'. behind 1 (
 pub statements_in_append : (a b : List KStmt) → statements_in_list (a ++ b) ≡ statements_in_list a + statements_in_list b
 statements_in_append [] b = sym (zero-add (statements_in_list b))
 statements_in_append (s ∷ a) b =
-    ap (λ n. statements_in s + n) (statements_in_append a b) ∙ sym (add_assoc (statements_in s) (statements_in_list a) (statements_in_list b))
+    ap (λ n. statements_in s + n) (statements_in_append a b) ∙ sym
+    (add_assoc (statements_in s) (statements_in_list a) (statements_in_list b))

@@ -95,7 +95,8 @@ wider n m t l h = test_within t m (let u = within_tested t n h in omega arith)
 within_more : (n m : ℕ) (o : Outcome) → n ≤ m → Settled (within n o) → within m o ≡ within n o
 within_more n m (Ended s) l d =
     kept_if (nat_le (all_turns s.turns) n) (nat_le (all_turns s.turns) m) (Ended s) (wider n m (all_turns s.turns) l) d
-within_more n m (Stuck t statement) l d = kept_if (nat_le (all_turns t) n) (nat_le (all_turns t) m) (Stuck t statement) (wider n m (all_turns t) l) d
+within_more n m (Stuck t statement) l d = kept_if (nat_le (all_turns t) n) (nat_le (all_turns t) m) (Stuck t statement)
+    (wider n m (all_turns t) l) d
 within_more n m (Over t a count) l d =
     kept_if (nat_le (all_turns t) n) (nat_le (all_turns t) m) (Over t a count) (wider n m (all_turns t) l) d
 within_more n m More l d = refl

@@ -93,7 +93,13 @@ sound_outcome a s inputs store NotFinished is_format r = absurd r
 pub right_is_sound : RightIsSound
 right_is_sound a s formats kernel right store is arrays given =
     let e = right store is arrays given in
-    record { turns = e.turns; outcome = e.outcome; is = e.is; appends = e.appends; so = sound_outcome a s (told_by a s store) store e.outcome is.format e.so }
+    record {
+      turns = e.turns;
+      outcome = e.outcome;
+      is = e.is;
+      appends = e.appends;
+      so = sound_outcome a s (told_by a s store) store e.outcome is.format e.so;
+    }
 
 -- so is one that is right for a written statement
 outcome_for : (a : Arithmetic) (s : Statement) (formats : List (List FormatLevel)) (store : Store) (o : KernelOutcome)

@@ -17,7 +17,8 @@ ToldOf order P R (GotStuck statement) = ⊥
 ToldOf order P R (TooLong place count) = (t : LoopKind → ℕ) × ((a : Arr) × R t a count × (place_of order a ≡ place))
 ToldOf order P R NotFinished = ⊥
 
--- where the code of a kernel does so from its start, and arrays of the result may not be cut, the kernel ends so within some number of turns
+-- where the code of a kernel does so from its start, and arrays of the result may not be cut, the kernel ends so within some number of
+-- turns
 abbrev pub EndsAsCodeDoes : Type 1
 EndsAsCodeDoes = (a : Arithmetic) (order : ℕ) (kernel : Kernel) (arrays : Arrays) (P : State → Type 0) (R : Refusal)
     → Does (setting_of false a kernel) kernel.body (start_state kernel arrays) P R

@@ -111,7 +111,8 @@ told_either order false o place count h e = cc
 
 told_granted : (order n : ℕ) (o : Outcome) (place : Place) (count : ℕ) → Grants o → told order (within n o) ≡ TooLong place count → ⊥
 told_granted order n (Ended s) place count h e = told_either order (nat_le (all_turns s.turns) n) (Ended s) place count (λ f. cc) e
-told_granted order n (Stuck t statement) place count h e = told_either order (nat_le (all_turns t) n) (Stuck t statement) place count (λ f. cc) e
+told_granted order n (Stuck t statement) place count h e = told_either order (nat_le (all_turns t) n) (Stuck t statement) place
+    count (λ f. cc) e
 told_granted order n (Over t a c) place count h e = absurd h
 told_granted order n More place count h e = cc
 

@@ -63,7 +63,8 @@ pub at_least_body : (c : Setting) (n : ℕ) (body : List KStmt) (s : State) → 
 at_least_body c n body s = at_least_behind (all_turns s.turns) 1 (run_list c n body s) (at_least_list c n body s)
 
 -- what code is told to do, it is told to do behind other statements
-pub told_behind : (limit n : ℕ) (o told before : Outcome) → told ≡ behind n before → before ≡ within limit o → told ≡ within limit (behind n o)
+pub told_behind : (limit n : ℕ) (o told before : Outcome) → told ≡ behind n before → before ≡ within limit o
+    → told ≡ within limit (behind n o)
 told_behind limit n o told before h g = h ∙ ap (behind n) g ∙ sym (within_behind limit n o)
 
 module _ (c : Setting) (limit : ℕ) (code : List KStmt) (i : ℕ) (this : KStmt) (st : State) (total : Outcome) (here : i < length code)

@@ -83,7 +83,8 @@ module _ (letter : Letter) (size parents begun level : ℕ) (part : LevelWords) 
       coordinates_held (OfHashed l) h (subst (λ k. zeros_at_start k OfCoordinates begun ≡ Some 0) h.kind refl) ws is
 
 -- each level is held
-pub levels_held : (letters : List Letter) (sizes : List ℕ) (parts : List LevelWords) (ls : List StorageLevel) (parents begun level nothing : ℕ)
+pub levels_held : (letters : List Letter) (sizes : List ℕ) (parts : List LevelWords) (ls : List StorageLevel)
+    (parents begun level nothing : ℕ)
     (given a : Arrays) → AreHandedOver letters sizes parts parents ls → HoldParts parts level a
     → StartsBelow nothing letters sizes begun level given → Keeps given a → AreHeld ls 0 level (summed a)
 levels_held [] sizes parts [] parents begun level nothing given a h left starts kept = tt

@@ -79,7 +79,8 @@ keeps_sort : (s : State) (g : ℕ) (cs ps : Option (List ℕ)) → KeepsTo s (so
 keeps_sort s g None ps = tt
 keeps_sort s g (Some cs) None = tt
 keeps_sort s g (Some cs) (Some ps) = keeps_choice s (length cs == length ps) _ _
-    (keeps_both s.arrays _ _ (keeps_set s (ListCoordinates g) _ refl) (keeps_set (set_array s (ListCoordinates g) _) (ListPositions g) _ refl))
+    (keeps_both s.arrays _ _ (keeps_set s (ListCoordinates g) _ refl)
+    (keeps_set (set_array s (ListCoordinates g) _) (ListPositions g) _ refl))
     tt
 
 keeps_columns : (s : State) (w : ℕ) (rows : List Row) (n : ℕ) → Keeps s.arrays (set_columns s w rows n).arrays

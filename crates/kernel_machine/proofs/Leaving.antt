@@ -120,7 +120,8 @@ pub ready_itself : (a : Arithmetic) (kernel : Kernel) (store : Store) (p : Prepa
     → IsReadyFor a p.kernel.now store p
 ready_itself a kernel store p ready = subst (λ k. IsReadyFor a k store p) (sym ready.kernel_is) ready
 
-pub checked_answer : (a : Arithmetic) (kernel : Kernel) (store : Store) (budget : ℕ) (p : Prepared) (r : Result (Storage × Turns) CheckedFault)
+pub checked_answer : (a : Arithmetic) (kernel : Kernel) (store : Store) (budget : ℕ) (p : Prepared)
+    (r : Result (Storage × Turns) CheckedFault)
     → IsReadyFor a kernel store p
     → ((store : Store) (ready : IsReadyFor a p.kernel.now store p) → MatchResult r
     (λ x. IsEndOf a p.kernel.now store ready.starts.given budget x.0 x.1) (IsRunFault a p.kernel.now store ready.starts.given budget))

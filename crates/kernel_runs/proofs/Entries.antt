@@ -124,7 +124,8 @@ find_row coords letters xs (suc n) = by (find_row coords letters xs n)
 module _ (a : Arithmetic) (laws : Laws a) (s : Statement) (formats : List (List FormatLevel)) (ranges : List ℕ)
     (operands : List Entries) (store : Store) (are : AreOperands s formats operands)
     (for : IsStoreFor a s formats ranges operands store) (tensor : Storage) (table : Table)
-    (named : IsNamedResult a (flat s) (told_by a (flat s) store) store.format table) (packed : IsPacked a.zero store.format store.ranges table tensor)
+    (named : IsNamedResult a (flat s) (told_by a (flat s) store) store.format table)
+    (packed : IsPacked a.zero store.format store.ranges table tensor)
     (entries : Entries) (lists : ListsNonzero a tensor entries) where
   format_is : tensor.format ≡ store.format
   format_is = packed.format_is
@@ -250,7 +251,8 @@ module _ (a : Arithmetic) (laws : Laws a) (s : Statement) (formats : List (List 
           × (row_from table.coords i 0 (letters_of store.format) ≡ in_level_order store.format coords))
           ⊎ ((i : ℕ) → i < table.count → row_from table.coords i 0 (letters_of store.format)
           ≡ in_level_order store.format coords → ⊥)
-          → value_at a lists.all.list coords ≡ statement_value a (flat s) (told_by a (flat s) store).values (slice_index store.ranges) coords
+          → value_at a lists.all.list coords ≡ statement_value a (flat s) (told_by a (flat s) store).values
+          (slice_index store.ranges) coords
       by (inl found) = row_value found.0 coords found.1 long found.2
       by (inr none) =
           no_row_value coords long none
@@ -299,7 +301,8 @@ module _ (a : Arithmetic) (laws : Laws a) (s : Statement) (formats : List (List 
         lists.values coords
         ∙ value_is coords (from_below (map (slice_index store.ranges) s.left.vars) coords
         (subst (λ xs. IsBelow xs coords) (shape_is ∙ sym same_shape) below))
-        ∙ ap (λ (told : Inputs). statement_value a (flat s) told.values (slice_index store.ranges) coords) (told_flat a s (told_alone a store))
+        ∙ ap (λ (told : Inputs). statement_value a (flat s) told.values (slice_index store.ranges) coords)
+        (told_flat a s (told_alone a store))
         ∙ nested_value_same a s (told_alone a store).values (operand_values a operands)
         (values_told a laws s formats ranges operands store are for) (slice_index store.ranges) coords
         ∙ ap (λ (rs : List ℕ). nested_value a s (operand_values a operands) (slice_index rs) coords) for.ranges_are;

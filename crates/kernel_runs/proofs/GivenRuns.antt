@@ -148,7 +148,8 @@ given_is a laws s formats kernel given operands bounds budget ranges told are st
         → IsBelow (map (slice_index ranges) s.left.vars) (slice_index_or entries.list k d).coords
     entry_below k d h =
         let path = entry_path a laws tensor entries run.lists run.each k d h in
-        let long : length (slice_index_or entries.list k d).coords ≡ length s.left.vars = (run.each.each k d h).long ∙ entries_order ∙ order in
+        let long : length (slice_index_or entries.list k d).coords ≡ length s.left.vars = (run.each.each k d h).long ∙ entries_order
+        ∙ order in
         below_from_each (slice_index ranges) s.left.vars (slice_index_or entries.list k d).coords long (λ mode inside.
         let var : slice_index s.left.vars mode ≡ mode =
         ap (λ (vs : List ℕ). slice_index vs mode) are.named.standing ∙ number_at 0 (length s.left.vars) mode inside ∙ omega arith in

@@ -110,7 +110,8 @@ module _ (format : List FormatLevel) where
           before.0 (long ∙ sym (row_long (coords_of entries) (slice_index numbers (suc i)))) (omega (arith, within, long))
           (λ e h. ap (λ (xs : List ℕ). slice_index xs e) (sym (row_is entries (slice_index numbers i))) ∙ before.2 e h
           ∙ ap (λ (xs : List ℕ). slice_index xs e) (row_is entries (slice_index numbers (suc i))))
-          (subst (λ (xs : List ℕ). slice_index xs before.0 < slice_index (row_at (coords_of entries) (slice_index numbers (suc i))) before.0)
+          (subst (λ (xs : List ℕ). slice_index xs before.0 < slice_index (row_at (coords_of entries) (slice_index numbers (suc i)))
+          before.0)
           (row_is entries (slice_index numbers i))
           (subst (λ (xs : List ℕ). slice_index (level_coords format entries (slice_index numbers i)) before.0 < slice_index xs before.0)
           (row_is entries (slice_index numbers (suc i))) before.3))

@@ -119,6 +119,7 @@ module _ (s : Statement) (formats : List (List FormatLevel)) (plan : Planned) (p
     increasing = is.increasing;
     nonzero = is.nonzero;
     values_are = λ coords below. is.values_are coords below
-        ∙ values_kept a s formats plan (operand_values a operands) (operand_values a (drawn plan.origins operands)) ranges coords are.numbered p
+        ∙ values_kept a s formats plan (operand_values a operands) (operand_values a (drawn plan.origins operands)) ranges coords
+        are.numbered p
         (λ tensor at some within. ap (λ list. value_at a list at) (entries_drawn plan.origins operands tensor some within));
   }

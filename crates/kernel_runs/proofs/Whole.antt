@@ -165,7 +165,8 @@ module _ (a : Arithmetic) (laws : Laws a) (s : Statement) (formats : List (List 
         ends : EndsOn a kernel (store_of ranges storages format) tensor turns
         ends = run.ends
 
-        leaves : LeavesResult a (flat s) (told_by a (flat s) (store_of ranges storages format)) (store_of ranges storages format) ends.has_run.arrays
+        leaves : LeavesResult a (flat s) (told_by a (flat s) (store_of ranges storages format)) (store_of ranges storages format)
+            ends.has_run.arrays
         leaves = outcome_is a (length format) kernel ends.given
             (IsRightOutcomeFor a s formats (store_of ranges storages format))
             (Finished ends.has_run.arrays (count_of turns))

@@ -1,4 +1,5 @@
--- The arrays that a kernel only reads: the ranges, those ranges of the result's levels that have arrays, and what is stored of each operand.
+-- The arrays that a kernel only reads: the ranges, those ranges of the result's levels that have arrays, and what is stored of each
+-- operand.
 use Rattle.std.specs.Prelude.{ℕ, zero, suc, List, [], ◌∷◌, Option, Some, None, slice_get}
 use Rattle.kernel_code.specs.declared.syntax.Arr.{Arr}
 use Rattle.kernel_code.specs.declared.syntax.Arr.TheVariants.{Range, Values, Dimension, Ends, Coordinates, Width, Key, Sums}

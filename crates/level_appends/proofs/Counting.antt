@@ -26,7 +26,8 @@ apart e = absurd (never e)
     never : true ≡ false → ⊥
     never e = cc
 
-module _ (level total : ℕ) (parents_is : KExpr) (c : Setting) (size parents top : ℕ) (values : List ℕ) (small : size ≤ greatest_position_count)
+module _ (level total : ℕ) (parents_is : KExpr) (c : Setting) (size parents top : ℕ) (values : List ℕ)
+    (small : size ≤ greatest_position_count)
     (few : length values ≤ greatest_position_count) (s : State) (sized : s.arrays (Dimension 0 level) ≡ Some (size ∷ []))
     (held : s.arrays (Values 0) ≡ Some values) (n : ℕ) (product : StandsForProduct parents size n) where
   by_limit : (greatest_position_count < n) ⊎ (n ≤ greatest_position_count)

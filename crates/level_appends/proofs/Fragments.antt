@@ -40,7 +40,8 @@ module _ {L : Type 0} (means : Meaning L) (laws : Laws means) (letter : Letter) 
       → (log : Log) (more : ℕ) → more ≤ greatest_position_count → log.stage ≡ Unfinished
       → (s : State) → HasLog means letter size level log s.arrays → value parents_is s ≡ Some more
       → Does c code s
-      (λ t. Leaves NoVariable (IsOutside 0 level) free no_turns s t × HasLog means letter size level (with_parents letter more log) t.arrays)
+      (λ t. Leaves NoVariable (IsOutside 0 level) free no_turns s t
+      × HasLog means letter size level (with_parents letter more log) t.arrays)
       Never
   log_reserved c parents_is free code reserves able log more few stage s h is =
       does_weaker c code s _ _ _ _

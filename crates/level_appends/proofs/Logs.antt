@@ -119,21 +119,24 @@ progress_reserved letter parents more n last begin rows log upto is p = record {
         let r = p.reserved in
         omega (arith, both, behind, r, upto)
 
-    none : (properties letter).branchless ≡ false → log.counts ++ replicate (more - length log.counts) (ungiven letter) ≡ log.counts ++ replicate (more - length log.counts) 0
+    none : (properties letter).branchless ≡ false → log.counts ++ replicate (more - length log.counts) (ungiven letter) ≡ log.counts
+        ++ replicate (more - length log.counts) 0
     none b = ap (λ t. log.counts ++ replicate (more - length log.counts) (if t then 1 else 0)) b
 
     ones : (properties letter).branchless ≡ true → log.counts ++ replicate (more - length log.counts) (ungiven letter) ≡ replicate more 1
     ones b =
         let r = p.reserved in
         let all : parents + (more - length log.counts) ≡ more = omega (arith, r, upto) in
-        ap (λ t. log.counts ++ replicate (more - length log.counts) (if t then 1 else 0)) b ∙ ap (λ ns. ns ++ replicate (more - length log.counts) 1) (p.ones b)
+        ap (λ t. log.counts ++ replicate (more - length log.counts) (if t then 1 else 0)) b
+        ∙ ap (λ ns. ns ++ replicate (more - length log.counts) 1) (p.ones b)
         ∙ replicate-append-replicate parents (more - length log.counts) 1 ∙ ap (λ m. replicate m 1) all
 
     same_segment : (properties letter).branchless ≡ false → (q : ℕ)
         → segment_in (log.counts ++ replicate (more - length log.counts) (ungiven letter)) (one q) ≡ segment_in log.counts (one q)
     same_segment b q =
         ap (λ ns. segment_in ns (one q)) (none b)
-        ∙ ap (λ k. span k (total (take (q + 1) (log.counts ++ replicate (more - length log.counts) 0)))) (total_same q (more - length log.counts) log.counts)
+        ∙ ap (λ k. span k (total (take (q + 1) (log.counts ++ replicate (more - length log.counts) 0))))
+        (total_same q (more - length log.counts) log.counts)
         ∙ ap (λ k. span (total (take q log.counts)) k) (total_same (q + 1) (more - length log.counts) log.counts)
 
     given : (properties letter).branchless ≡ false → Given (properties letter).unique n last begin rows log

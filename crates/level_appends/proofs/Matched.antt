@@ -37,7 +37,8 @@ module _ (m : ℕ) (heads : ℕ → ℕ → ℕ) (many : ℕ) (coords : ℕ → 
   module _ (to : ℕ → ℕ) (within : (i : ℕ) → i < count → to i < many)
       (same : (i : ℕ) → i < count → SameKey m (λ d. coords d i) (λ d. heads d (to i))) where
     -- a row that a head between two others is of stands between theirs
-    stands_behind : (i j : ℕ) → i < count → j < many → to i < j → (k : ℕ) × (k < count) × (i < k) × SameKey m (λ d. heads d j) (λ d. coords d k)
+    stands_behind : (i j : ℕ) → i < count → j < many → to i < j → (k : ℕ) × (k < count) × (i < k)
+        × SameKey m (λ d. heads d j) (λ d. coords d k)
     stands_behind i j h g less =
         let s = n.head_there j g in (
           s.0,

@@ -19,7 +19,8 @@ module _ (rows finer : Rows) (to : ℕ → ℕ) (r : Refines rows finer to) wher
   begun_there (suc i) h = by_step (begun_there i (omega (arith, h))) (r.step i h)
     where
       by_step : begun finer.first (suc i) ≡ begun rows.first (suc (to i))
-          → ((to (suc i) ≡ to i) × (finer.first (suc i) ≡ false)) ⊎ ((to (suc i) ≡ suc (to i)) × (finer.first (suc i) ≡ rows.first (suc (to i))))
+          → ((to (suc i) ≡ to i) × (finer.first (suc i) ≡ false))
+          ⊎ ((to (suc i) ≡ suc (to i)) × (finer.first (suc i) ≡ rows.first (suc (to i))))
           → begun finer.first (suc (suc i)) ≡ begun rows.first (suc (to (suc i)))
       by_step before (inl same) =
           step_is finer.first (suc i) false same.1 ∙ before ∙ ap (λ k. begun rows.first (suc k)) (sym same.0)

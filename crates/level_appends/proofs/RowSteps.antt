@@ -219,7 +219,8 @@ module _ {L : Type 0} (means : Meaning L) (laws : Laws means) (letter : Letter) 
       does_turn other =
           does_append c edges (Set (base + 1) (Var (base + 2)) ∷ Set base (Var parent) ∷ []) s _ _ _
           (does_weaker c edges s _ _ _ _
-          (log_given means laws letter size level c (Var base) (Var (base + 1)) (Var (base + 2)) free edges gives able at.log at.last at.begin
+          (log_given means laws letter size level c (Var base) (Var (base + 1)) (Var (base + 2)) free edges gives able at.log
+          at.last at.begin
           (length at.log.coords) may_give s at.held (at.parent_is branches) (at.begin_is branches) at.count_is) (λ t k. k)
           (λ t a k z. absurd z))
           (λ t k.
@@ -258,7 +259,8 @@ module _ {L : Type 0} (means : Meaning L) (laws : Laws means) (letter : Letter) 
 
           may_give : MayAppendEdges letter at.last at.begin (length at.log.coords) at.log
           may_give = let w = may.order.within n inside in
-              may_turn letter parents n (record { last = at.last; begin = at.begin; count = length at.log.coords }) rows at.log at.progress (omega (arith, behind, away, w)) refl
+              may_turn letter parents n (record { last = at.last; begin = at.begin; count = length at.log.coords }) rows at.log
+              at.progress (omega (arith, behind, away, w)) refl
 
           step : ((properties letter).branchless ≡ false → IsLog (with_edges letter at.last at.begin (length at.log.coords) at.log))
               → Progress letter parents n (rows.parent n) (length at.log.coords) rows
@@ -266,9 +268,11 @@ module _ {L : Type 0} (means : Meaning L) (laws : Laws means) (letter : Letter) 
           step tells =
               subst (λ t. Progress letter parents n (rows.parent n) (if t then at.begin else length at.log.coords) rows
               (if t then at.log else with_edges letter at.last at.begin (length at.log.coords) at.log)) other
-              (subst (λ k. Progress letter parents n (rows.parent n) k rows (turned_log letter (record { last = at.last; begin = at.begin; count = length at.log.coords }) (rows.parent n) at.log))
+              (subst (λ k. Progress letter parents n (rows.parent n) k rows
+              (turned_log letter (record { last = at.last; begin = at.begin; count = length at.log.coords }) (rows.parent n) at.log))
               (turned_begin (record { last = at.last; begin = at.begin; count = length at.log.coords }) (rows.parent n))
-              (turns letter size parents n (record { last = at.last; begin = at.begin; count = length at.log.coords }) rows at.log may inside behind refl at.progress
+              (turns letter size parents n (record { last = at.last; begin = at.begin; count = length at.log.coords }) rows at.log
+              may inside behind refl at.progress
               (λ b. subst (λ t. IsLog (if t then at.log else with_edges letter at.last at.begin (length at.log.coords) at.log)) (sym other)
               (tells b))))
 
@@ -300,7 +304,8 @@ module _ {L : Type 0} (means : Meaning L) (laws : Laws means) (letter : Letter) 
                 leaves = leaves_none (IsOfCursor base) (IsOutside 0 level) free no_turns s;
               })) next
           by_test false is =
-              does_if_yes c (Bin NotEqual (Var base) (Var parent)) (edges ++ Set (base + 1) (Var (base + 2)) ∷ Set base (Var parent) ∷ []) []
+              does_if_yes c (Bin NotEqual (Var base) (Var parent))
+              (edges ++ Set (base + 1) (Var (base + 2)) ∷ Set base (Var parent) ∷ []) []
               rest s 0 (TurnedAt size parents n coord rows s) Q _ (tested ∙ ap (λ b. Some (word_of (not b))) is)
               (does_turn is) next
 
@@ -335,8 +340,10 @@ module _ {L : Type 0} (means : Meaning L) (laws : Laws means) (letter : Letter) 
     last_is : (i : ℕ) → rows.count ≡ suc i → at.last ≡ rows.parent i
     last_is i next = at.ends.some i next
 
-    all_filled : (some : Bool) (log : Log) → log ≡ closed_log letter (record { last = at.last; begin = at.begin; count = length at.log.coords }) some at.log
-        → ((i : ℕ) → rows.count ≡ suc i → some ≡ true) → (some ≡ true → 0 < rows.count) → (t : State) → HasLog means letter size level log t.arrays
+    all_filled : (some : Bool) (log : Log) → log ≡ closed_log letter
+        (record { last = at.last; begin = at.begin; count = length at.log.coords }) some at.log
+        → ((i : ℕ) → rows.count ≡ suc i → some ≡ true) → (some ≡ true → 0 < rows.count) → (t : State)
+        → HasLog means letter size level log t.arrays
         → LevelFilled means letter size level parents rows t
     all_filled some log is marked some_is t held = record {
       log = log;
@@ -346,7 +353,8 @@ module _ {L : Type 0} (means : Meaning L) (laws : Laws means) (letter : Letter) 
           (λ i next. (marked i next, last_is i next)) some_is refl at.progress
           (λ yes b. log_kept means laws letter size level (with_edges letter at.last at.begin (length at.log.coords) at.log) t.arrays b
           (subst (λ l. HasLog means letter size level l t.arrays)
-          (is ∙ ap (λ k. closed_log letter (record { last = at.last; begin = at.begin; count = length at.log.coords }) k at.log) yes) held)));
+          (is ∙ ap (λ k. closed_log letter (record { last = at.last; begin = at.begin; count = length at.log.coords }) k at.log)
+          yes) held)));
     }
 
     many : length at.log.coords ≡ begun rows.first rows.count
@@ -371,7 +379,8 @@ module _ {L : Type 0} (means : Meaning L) (laws : Laws means) (letter : Letter) 
         let no_rows = none_begun none in
         all_filled false at.log refl (λ i next. absurd (omega (arith, no_rows, next))) (λ e. apart (sym e)) t held
 
-    filled_some : (n : ℕ) → length at.log.coords ≡ suc n → (log : Log) → log ≡ with_edges letter at.last at.begin (length at.log.coords) at.log
+    filled_some : (n : ℕ) → length at.log.coords ≡ suc n → (log : Log)
+        → log ≡ with_edges letter at.last at.begin (length at.log.coords) at.log
         → (t : State) → HasLog means letter size level log t.arrays → LevelFilled means letter size level parents rows t
     filled_some n some log is t held = all_filled true log is (λ i next. refl) (λ _. some_rows n some) t held
 
@@ -421,7 +430,8 @@ module _ {L : Type 0} (means : Meaning L) (laws : Laws means) (letter : Letter) 
             (λ made a k z. z))
             (λ t k. does_nothing c t _ _ k)
 
-  pub ends_level_once : (code : List KStmt) → (properties letter).branchless ≡ true → code ≡ [] → EndsLevel means letter level base free code
+  pub ends_level_once : (code : List KStmt) → (properties letter).branchless ≡ true → code ≡ []
+      → EndsLevel means letter level base free code
   ends_level_once code b is able c size parents rows may s at =
       subst (λ k. Does c k s
       (λ t. Leaves NoVariable (IsOutside 0 level) free no_turns s t × LevelFilled means letter size level parents rows t) Never) (sym is)

@@ -10,6 +10,7 @@ pub record Refines (rows finer : Rows) (to : ℕ → ℕ) : Type 0 where
   pub coord : (i : ℕ) → i < finer.count → finer.coord i ≡ rows.coord (to i)
   pub start : 0 < finer.count → (to 0 ≡ 0) × (finer.first 0 ≡ rows.first 0)
   pub step : (i : ℕ) → suc i < finer.count
-      → ((to (suc i) ≡ to i) × (finer.first (suc i) ≡ false)) ⊎ ((to (suc i) ≡ suc (to i)) × (finer.first (suc i) ≡ rows.first (suc (to i))))
+      → ((to (suc i) ≡ to i) × (finer.first (suc i) ≡ false)) ⊎
+      ((to (suc i) ≡ suc (to i)) × (finer.first (suc i) ≡ rows.first (suc (to i))))
   pub ends : (i : ℕ) → finer.count ≡ suc i → rows.count ≡ suc (to i)
   pub none : finer.count ≡ 0 → rows.count ≡ 0

@@ -148,7 +148,8 @@ module _ (letter : Letter) (size parents : ℕ) (words : LevelWords) where
       → numbers ≡ words.ends.items → coords ≡ words.coordinates.items
       → Decides b ((l : compressed.CompressedLevel) × compressed_words.HasWords size unique parents numbers coords l) → Decides b Made
   compressed_decided unique b numbers coords is ends same d =
-      let P : List ℕ → List ℕ → Type 0 = λ ns xs. (l : compressed.CompressedLevel) × compressed_words.HasWords size unique parents ns xs l in
+      let P : List ℕ → List ℕ → Type 0 = λ ns xs. (l : compressed.CompressedLevel)
+      × compressed_words.HasWords size unique parents ns xs l in
       decides b (subst (λ ns. Decides b (P ns words.coordinates.items)) ends (subst (λ xs. Decides b (P numbers xs)) same d))
       (compressed_same unique is)
 

@@ -24,7 +24,8 @@ module _ (size : ℕ) (unique : Bool) (parents : ℕ) (coords : List ℕ) where
         subst (λ n. CoordsBelow n coords) h.size_is (subst (CoordsBelow l.size) h.coords_are keeps.below),
       )
 
-  pub made_of : size ≤ greatest_position_count → parents ≤ greatest_position_count → length coords ≡ parents → CoordsBelow size coords → Made
+  pub made_of : size ≤ greatest_position_count → parents ≤ greatest_position_count → length coords ≡ parents
+      → CoordsBelow size coords → Made
   made_of small few count below = (
     stored size unique Finished (length coords) coords 0,
     record {

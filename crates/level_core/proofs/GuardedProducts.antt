@@ -144,7 +144,8 @@ pub guarded_told : (parents factor : KExpr) (p f : ℕ) (s : State) → value pa
 guarded_told parents factor p f s first second small = elim (cases_lt greatest_narrow_factor f) [
   | inl wide ↦ let enough = wide_enough f wide small in
       let within = wide_parents_are_positions in
-      let many : greatest_position_count + 1 - 1 * (greatest_position_count - parents_of_wide) ≡ parents_of_wide + 1 = omega (arith, within) in (
+      let many : greatest_position_count + 1 - 1 * (greatest_position_count - parents_of_wide) ≡ parents_of_wide + 1 = omega
+      (arith, within) in (
         min p (parents_of_wide + 1) * f,
         asked parents factor p f (parents_of_wide + 1) s first second
             (most_told factor 1 s (omega arith) (less_yes (Num greatest_narrow_factor) factor greatest_narrow_factor f s refl second wide)
@@ -152,7 +153,8 @@ guarded_told parents factor p f s first second small = elim (cases_lt greatest_n
         stands p f (parents_of_wide + 1) enough,
       )
   | inr narrow ↦ let enough = narrow_enough f narrow in
-      let many : greatest_position_count + 1 - 0 * (greatest_position_count - parents_of_wide) ≡ greatest_position_count + 1 = omega arith in (
+      let many : greatest_position_count + 1 - 0 * (greatest_position_count - parents_of_wide) ≡ greatest_position_count + 1 = omega
+      arith in (
         min p (greatest_position_count + 1) * f,
         asked parents factor p f (greatest_position_count + 1) s first second
             (most_told factor 0 s (omega arith) (less_no (Num greatest_narrow_factor) factor greatest_narrow_factor f s refl second narrow)

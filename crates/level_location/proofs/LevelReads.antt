@@ -1,5 +1,6 @@
 -- What code reads of a level that is sought.
-use Rattle.std.specs.Prelude.{◌≡◌, ℕ, zero, suc, ◌+◌, ◌-◌, ◌≤◌, ◌<◌, nat_lt, Bool, true, false, List, [], ◌∷◌, length, Some, slice_get, slice_index}
+use Rattle.std.specs.Prelude.{◌≡◌, ℕ, zero, suc, ◌+◌, ◌-◌, ◌≤◌, ◌<◌, nat_lt, Bool, true, false, List, [], ◌∷◌, length}
+use Rattle.std.specs.Prelude.{Some, slice_get, slice_index}
 use Rattle.std.specs.Prelude.{slice_index_or, refl}
 use Rattle.std.proofs.Common.{◌∙◌, sym, ap, subst, arith}
 use Rattle.std.proofs.lemmas.Bool.Decides.{nat_tests}
@@ -92,7 +93,8 @@ pub level_within : (s : Statement) (formats : List (List FormatLevel)) (seek : S
     → IsLevel s formats seek → IsRead s formats seek access format → seek.level ≤ length format
 level_within s formats seek access format is r =
     let last = is.last in
-    let same : length (variables_of formats (slice_get s.accesses seek.access)) ≡ length (by_level (format_of formats access.tensor) access.vars) =
+    let same : length (variables_of formats (slice_get s.accesses seek.access)) ≡ length
+    (by_level (format_of formats access.tensor) access.vars) =
     ap (λ o. length (variables_of formats o)) r.there in
     let levels = levels_long (format_of formats access.tensor) access.vars in
     let read : length format ≡ length (format_of formats access.tensor) = ap length r.format_is in

@@ -140,6 +140,7 @@ module _ {L : Type 0} (means : Meaning L) (laws : Laws means) (parents size : �
       → means.prepared old parents 0 new → FillsRows means parents 0 (rows_at keys (replicate keys.count 0)) column old new
   first_filled column new has keeps few prepared = record {
     appended = λ able. absurd (apart (sym able ∙ not_appended));
-    inserted = λ _. counts means laws parents 0 (rows_at keys (replicate keys.count 0)) old (may.inserts not_appended).0 full size column new
+    inserted = λ _. counts means laws parents 0 (rows_at keys (replicate keys.count 0)) old (may.inserts not_appended).0 full size
+        column new
         keeps first_may (first_within few) prepared is (first_counted size keys column has);
   }

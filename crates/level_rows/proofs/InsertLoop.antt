@@ -243,6 +243,7 @@ module _ {L : Type 0} (means : Meaning L) (laws : Laws means) (parents most : �
 
       single : (s : Span) → Asked means l parents s → IsParent parents s
       single s ok =
-          let alone = laws.one_parent l s ok.0 (ap (λ k. (properties k).branchless) f.kind ∙ (are_of_a_kind (means.kind old)).inserted_branches f.able) in
+          let alone = laws.one_parent l s ok.0 (ap (λ k. (properties k).branchless) f.kind
+          ∙ (are_of_a_kind (means.kind old)).inserted_branches f.able) in
           let within = ok.1 in
           (s.lo, omega (arith, alone, within), ap (span s.lo) alone)

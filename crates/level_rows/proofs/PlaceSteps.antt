@@ -94,7 +94,8 @@ pub record Slotted {L : Type 0} (means : Meaning L) (old : L) (level g base pare
   pub slot : ℕ
   pub l : L
   pub inserting : Inserting means parents most (done + 1) slot rows (slice_set ps done slot) old l
-  pub placed : Placed means level g base s0 (insert_turns (probes_each (means.kind old) most) (suc done)) done slot (rows.parent done) l ps s
+  pub placed : Placed means level g base s0 (insert_turns (probes_each (means.kind old) most) (suc done)) done slot
+      (rows.parent done) l ps s
 
 -- a variable that isn't read again is set
 set_other : {L : Type 0} (means : Meaning L) (level g base : ℕ) (s0 : State) (most : LoopKind → ℕ) (done slot last : ℕ) (l : L)
@@ -247,7 +248,8 @@ module _ {L : Type 0} (means : Meaning L) (laws : Laws means) (c : Setting) (let
         inserting = a.inserting;
         last_at = λ i e. let same : i ≡ done = omega (arith, e) in ap rows.parent (sym same);
         placed =
-            subst (λ n. Placed means level g base s0 (insert_turns (probes_each (means.kind old) most) n) (done + 1) a.slot (rows.parent done) a.l
+            subst (λ n. Placed means level g base s0 (insert_turns (probes_each (means.kind old) most) n) (done + 1) a.slot
+            (rows.parent done) a.l
             (slice_set ps done a.slot) s3) next (record {
               held = laws.held_there a.l 0 level s.arrays s3.arrays
                   (λ x of. other_array s (ListPositions g) x (slice_set ps done a.slot) (list_apart level g x of)) a.placed.held;
@@ -255,9 +257,11 @@ module _ {L : Type 0} (means : Meaning L) (laws : Laws means) (c : Setting) (let
               slot_is = other_var s2 base (base + 1) (done + 1) (λ e. omega (arith, e)) ∙ a.placed.slot_is;
               parent = other_var s2 base (base + 3) (done + 1) (λ e. omega (arith, e)) ∙ a.placed.parent;
               places = this_array s (ListPositions g) (ListPositions g) (slice_set ps done a.slot) (same_arr_self (ListPositions g));
-              leaves = leaves_set NoVariable (Stays level g) base (insert_turns (probes_each (means.kind old) most) (suc done)) s0 s2 base (done + 1)
+              leaves = leaves_set NoVariable (Stays level g) base (insert_turns (probes_each (means.kind old) most) (suc done)) s0
+                  s2 base (done + 1)
                   (λ y l e. omega (arith, l, e))
-                  (leaves_array NoVariable (Stays level g) base (insert_turns (probes_each (means.kind old) most) (suc done)) s0 s (ListPositions g)
+                  (leaves_array NoVariable (Stays level g) base (insert_turns (probes_each (means.kind old) most) (suc done)) s0 s
+                  (ListPositions g)
                   (slice_set ps done a.slot) (λ b k. k.1) a.placed.leaves);
             });
       })))
@@ -361,7 +365,8 @@ module _ {L : Type 0} (means : Meaning L) (laws : Laws means) (c : Setting) (let
         inserted = inserts means laws parents most rows old may enough d.slot d.ps d.l
             (subst (λ n. Inserting means parents most n d.slot rows d.ps old d.l) all d.inserting);
         width = d.inserting.width;
-        leaves = subst (λ n. Leaves NoVariable (Stays level g) base (insert_turns (probes_each (means.kind old) most) n) s0 s) all d.placed.leaves;
+        leaves = subst (λ n. Leaves NoVariable (Stays level g) base (insert_turns (probes_each (means.kind old) most) n) s0 s) all
+            d.placed.leaves;
       }
   ends (suc n) s d z = absurd (apart (sym (test_yes s n d) ∙ z))
     where

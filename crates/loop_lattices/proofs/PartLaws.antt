@@ -69,7 +69,8 @@ pub remains_by_points : (iterates : ℕ → Bool) (e : Expr) (points : List Poin
 remains_by_points iterates e points lattice present others =
     let same : left_of iterates present ≡ present = λ i k. left_at (iterates k) (present k) (others k) i in (
       λ is.
-          let left = subst (λ there. Remains (part there e)) (sym same) (left_remains (part present e) (sym (remains_left present e) ∙ is)) in
+          let left = subst (λ there. Remains (part there e)) (sym same)
+          (left_remains (part present e) (sym (remains_left present e) ∙ is)) in
           let has = lattice.complete present left in
           (has.0, has.1, has.2, has.3.within),
       λ has. remains_left present e

@@ -27,8 +27,8 @@ pub fn whole_ranges_are_points()
 {}
 
 /// Claim: an access that a loop goes through stands in no part that remains where of these accesses only those without order are present,
-/// exactly where each point that has it has one in order too. So whether it has to be gathered, or is found at the coordinates of others, is
-/// told before a kernel runs.
+/// exactly where each point that has it has one in order too. So whether it has to be gathered, or is found at the coordinates of others,
+/// is told before a kernel runs.
 #[tactic(auto, using(crate::proofs::PointLaws::found_by_points))]
 pub fn sought_ones_have_others()
     ensures { (iterates : ℕ → Bool) (e : Expr) (points : List Point) → IsLattice iterates e points → (ordered : ℕ → Bool)
@@ -37,8 +37,8 @@ pub fn sought_ones_have_others()
         ↔ Each (λ p. contains p.iterators k ≡ true → list_any ordered p.iterators ≡ true) points) }
 {}
 
-/// Claim: a loop whose cursors go over the accesses in order, and over those without order that stand in a part which remains where only such
-/// are present, goes over its whole range only where a part that remains is full. Each other access without order is found at once.
+/// Claim: a loop whose cursors go over the accesses in order, and over those without order that stand in a part which remains where only
+/// such are present, goes over its whole range only where a part that remains is full. Each other access without order is found at once.
 #[tactic(auto, using(crate::proofs::PointLaws::only_full))]
 pub fn whole_ranges_are_full()
     ensures { (iterates ordered cursor present : ℕ → Bool) (e : Expr)

@@ -85,7 +85,8 @@ coordinates_gain p t x y v h (Sums m) = refl
 coordinates_gain p t x y v h (ListCoordinates m) = refl
 coordinates_gain p t x y v h (ListPositions m) = refl
 
-pub widths_gain : (p : ArrayPlaces) (t : PairTable) (x y v : ℕ) → GainsPair p.widths t x y v → HasPlace p (record p { widths = t }) (Width x y) v
+pub widths_gain : (p : ArrayPlaces) (t : PairTable) (x y v : ℕ) → GainsPair p.widths t x y v
+    → HasPlace p (record p { widths = t }) (Width x y) v
 widths_gain p t x y v h Range = refl
 widths_gain p t x y v h (Values m) = refl
 widths_gain p t x y v h (Dimension m n) = refl

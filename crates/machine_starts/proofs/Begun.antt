@@ -154,7 +154,8 @@ result_apart nothing (letter ∷ letters) (size ∷ sizes) parents level s b h v
 
 -- the levels and the values are as a run starts them
 pub result_begun : (nothing : ℕ) (letters : List Letter) (sizes : List ℕ) (parents level : ℕ) (s : State)
-    → HasSizes letters sizes level s.arrays → AreBegun nothing letters sizes parents level (begun_result nothing letters sizes parents level s).arrays
+    → HasSizes letters sizes level s.arrays → AreBegun nothing letters sizes parents level
+    (begun_result nothing letters sizes parents level s).arrays
 result_begun nothing [] [] parents level s h = set_here s (Values 0) (replicate parents nothing)
 result_begun nothing [] (size ∷ sizes) parents level s h = set_here s (Values 0) (replicate parents nothing)
 result_begun nothing (letter ∷ letters) [] parents level s h = set_here s (Values 0) (replicate parents nothing)

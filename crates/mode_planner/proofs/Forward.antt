@@ -43,7 +43,8 @@ module _ (n : ℕ) (edges : List (ℕ × ℕ)) (cycle : List ℕ) (each : Each L
       let more : k + 1 ≡ suc k = omega arith in
       let inside : k + 1 < length cycle = omega (arith, h) in
       let before : k < length cycle = omega (arith, h) in
-      let next = edge_forward edges (slice_index_or cycle k 0) (slice_index_or cycle (k + 1) 0) each (cycle_edges n edges cycle k 0 names inside) in
+      let next = edge_forward edges (slice_index_or cycle k 0) (slice_index_or cycle (k + 1) 0) each
+      (cycle_edges n edges cycle k 0 names inside) in
       let here = rises k before in
       let same : slice_index_or cycle (k + 1) 0 ≡ slice_index_or cycle (suc k) 0 = ap (λ i. slice_index_or cycle i 0) more in
       omega (arith, next, here, same)

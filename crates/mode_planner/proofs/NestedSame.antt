@@ -7,7 +7,8 @@ use Rattle.numbers.specs.Arithmetic.{Arithmetic}
 use Rattle.index_notation.specs.declared.syntax.Access.{Access}
 use Rattle.index_notation.specs.declared.syntax.NestedSum.{NestedSum}
 use Rattle.index_notation.specs.declared.syntax.Statement.{Statement}
-use Rattle.expr_terms.specs.Nested.{accesses_with, flat, flat_values, free_in, nested_value, sum_access, sum_value, values_with, with_tensor}
+use Rattle.expr_terms.specs.Nested.{accesses_with, flat, flat_values, free_in, nested_value, sum_access, sum_value}
+use Rattle.expr_terms.specs.Nested.{values_with, with_tensor}
 use Rattle.expr_terms.specs.Points.{point_of}
 use Rattle.expr_terms.specs.Value.{value_of}
 use Rattle.expr_terms.specs.ValueLaws.{AgreeAt}

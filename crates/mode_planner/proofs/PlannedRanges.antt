@@ -48,7 +48,8 @@ all_moved origins (access ∷ planned) (old ∷ given) v same follow =
     let here : Follows origins old access = follow 0 old access refl refl in
     let rest = all_moved origins planned given v (omega (arith, same)) (λ k o a is at. follow (suc k) o a is at) in
     map-append (at_origin origins) (places_from access.tensor 0 access.vars v) (places_in planned v)
-    ∙ ap (λ (places : List Place). places ++ map (at_origin origins) (places_in planned v)) (places_moved origins access.tensor 0 access.vars v
+    ∙ ap (λ (places : List Place). places ++ map (at_origin origins) (places_in planned v))
+    (places_moved origins access.tensor 0 access.vars v
     ∙ ap (λ tensor. places_from tensor 0 access.vars v) here.1 ∙ ap (λ vars. places_from old.tensor 0 vars v) here.0)
     ∙ ap (λ (places : List Place). places_from old.tensor 0 old.vars v ++ places) rest
 
@@ -70,7 +71,8 @@ module _ (origins : List ℕ) (bounds : ℕ → ℕ → Bound) where
   refuses : (r : ℕ) (fault : RangeFault) → Err fault ≡ Ok r → ⊥
   refuses r fault h = cc
 
-  within : (range r : ℕ) (places : List Place) → unless_above range bounds (first_above range bounds (map (at_origin origins) places)) ≡ Ok r
+  within : (range r : ℕ) (places : List Place) → unless_above range bounds
+      (first_above range bounds (map (at_origin origins) places)) ≡ Ok r
       → unless_above range stored_bounds (first_above range stored_bounds places) ≡ Ok r
   within range r [] h = h
   within range r (p ∷ places) h = by (nat_lt range (least_of (stored_bounds p.tensor p.mode))) h (within range r places)

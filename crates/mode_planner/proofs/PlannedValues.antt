@@ -278,8 +278,10 @@ values_kept a s formats plan values stored ranges coords numbered p store =
     let t = plan.statement in
     let here = all a s formats plan values stored ranges numbered p store in
     statement_same a (flat s) (flat t) (flat_values a s values ranges) (flat_values a t stored ranges)
-    (reads_at a ranges (length s.vars) (flat_values a s values ranges) (flat_values a t stored ranges) (flat s).accesses (flat t).accesses here)
-    (stand_at a ranges (length s.vars) (flat_values a s values ranges) (flat_values a t stored ranges) (flat s).accesses (flat t).accesses here)
+    (reads_at a ranges (length s.vars) (flat_values a s values ranges) (flat_values a t stored ranges) (flat s).accesses
+    (flat t).accesses here)
+    (stand_at a ranges (length s.vars) (flat_values a s values ranges) (flat_values a t stored ranges) (flat s).accesses
+    (flat t).accesses here)
     p.left p.vars p.expr ranges coords
 
 -- the same variables stand in what its accesses and sums read

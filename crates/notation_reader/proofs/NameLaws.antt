@@ -8,7 +8,8 @@ use Rattle.notation_grammar.specs.declared.symbol.Symbol.{Symbol}
 use Rattle.notation_grammar.specs.declared.symbol.Symbol.TheVariants.{Lexeme}
 use Rattle.notation_grammar.specs.Grammar.{Factor, Digits, Read, Bracketed, Negated, Summed, Product, Lone, Multiplied, Sum, Alone, Added}
 use Rattle.notation_grammar.specs.Grammar.{Taken, Tree, Role, NamesLeft, NamesRight, Written, plain, the_end, is_sum}
-use Rattle.notation_grammar.specs.Grammar.{FactorNames, ProductNames, SumNames, HasNames, factor_of, product_of, sum_of, left_of, sentence_of}
+use Rattle.notation_grammar.specs.Grammar.{FactorNames, ProductNames, SumNames, HasNames, factor_of, product_of, sum_of}
+use Rattle.notation_grammar.specs.Grammar.{left_of, sentence_of}
 use Rattle.notation_reader.specs.Machine.{FactorPlace, State, Start, WantsFactor, left_named, role_of_named, role_of_factor, step, role}
 use Rattle.notation_reader.proofs.MachineLaws.{nothing_leads}
 

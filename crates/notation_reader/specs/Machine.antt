@@ -7,7 +7,8 @@ use Rattle.index_notation.specs.declared.token.WrittenAccess.{WrittenAccess}
 use Rattle.notation_grammar.specs.declared.symbol.Symbol.{Symbol}
 use Rattle.notation_grammar.specs.declared.symbol.Symbol.TheVariants.{Lexeme, End}
 use Rattle.notation_grammar.specs.Grammar.{Factor, Digits, Read, Bracketed, Negated, Summed, Product, Lone, Multiplied, Sum, Alone, Added}
-use Rattle.notation_grammar.specs.Grammar.{Taken, sum_name, is_sum, LeftSide, Tree, Role, NamesLeft, NamesRight, IsVariable, Binds, IsNumber}
+use Rattle.notation_grammar.specs.Grammar.{Taken, sum_name, is_sum, LeftSide, Tree, Role, NamesLeft, NamesRight}
+use Rattle.notation_grammar.specs.Grammar.{IsVariable, Binds, IsNumber}
 use Rattle.notation_grammar.specs.Grammar.{Opens, Plain, Written, written, plain, access_of, product_of, sum_of, left_of, sentence_of}
 
 -- a place where a sum, a product or a factor is wanted, with all that stands before it

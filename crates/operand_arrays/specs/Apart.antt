@@ -1,5 +1,5 @@
--- Places apart from the variables of a sink, which stand between two numbers: so code that a sum is made by may use places that are kept below
--- the sum's own variables.
+-- Places apart from the variables of a sink, which stand between two numbers: so code that a sum is made by may use places that are kept
+-- below the sum's own variables.
 use Rattle.std.specs.Prelude.{◌≡◌, ◌⊎◌, ℕ, ◌+◌, ◌≤◌, ◌<◌, Some, All, slice_get}
 use Rattle.term_code.specs.declared.places.Places.{Places}
 use Rattle.term_code.specs.declared.places.AccessPlace.{AccessPlace}

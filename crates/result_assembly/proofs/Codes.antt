@@ -75,7 +75,8 @@ places_as letter level d base w g through count most test coord insert number te
     (subst (λ e. PlacesRows meaning letter level base w g count most test e insert)
     (coords ∙ ap (λ k. At (Key w k) (Var base)) (one_less level d number)) places))
 
-pub counted_of : (letter : Letter) (slotted : IsCounted letter) (at site : DrainSite) (through : ℕ) (count test again coord : KExpr) (total : KStmt) (greatest insert code : List KStmt)
+pub counted_of : (letter : Letter) (slotted : IsCounted letter) (at site : DrainSite) (through : ℕ) (count test again coord : KExpr)
+    (total : KStmt) (greatest insert code : List KStmt)
     → Below at.base count → site ≡ rows_of at → test ≡ begins_test site.base site.workspace through
     → again ≡ begins_test site.base site.workspace through → coord ≡ At (Key at.workspace (at.level - 1)) (Var site.base)
     → total ≡ Set at.base (guarded_product count (Width (Var (site.base + 2))))
@@ -109,10 +110,12 @@ counted_of letter slotted at site through count test again coord total greatest 
         codes ∙ ap (λ t. (greatest ++ t ∷ []) ++ insert) totals
         ∙ append_assoc greatest (Set base (guarded_product count (Width (Var (base + 1 + 2)))) ∷ []) insert in
         subst (λ k. Does c k s (LeavesLevel nothing letters sizes table w g d base s) (RefusesLevel letters sizes table d s)) (sym code_is)
-        (counted_level letters rest letter slotted w g d through base count bounded left chain nothing sizes table may s dr greatest insert finds_here places_here
+        (counted_level letters rest letter slotted w g d through base count bounded left chain nothing sizes table may s dr greatest
+        insert finds_here places_here
         c)
 
-pub full_of : (letter : Letter) (full : (properties letter).full ≡ true) (at site : DrainSite) (through : ℕ) (count test coord : KExpr) (total : KStmt) (refuse insert code : List KStmt)
+pub full_of : (letter : Letter) (full : (properties letter).full ≡ true) (at site : DrainSite) (through : ℕ)
+    (count test coord : KExpr) (total : KStmt) (refuse insert code : List KStmt)
     → Below at.base count → site ≡ rows_of at → test ≡ begins_test site.base site.workspace through
     → coord ≡ At (Key at.workspace (at.level - 1)) (Var site.base)
     → total ≡ Set at.base (guarded_product count (At (Dimension 0 at.level) (Num 0))) → refuse ≡ guard_code at.base

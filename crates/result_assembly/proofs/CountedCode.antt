@@ -130,10 +130,14 @@ module _ (letters rest : List Letter) (letter : Letter) (slotted : IsCounted let
         (RefusesLevel letters sizes table d s)
     inserts t l =
         does_weaker c insert (set_var t base (total t l)) _ _ _ _
-        (inserted letters rest letter w g d n base count (Var (base + 1 + 2)) left through (counted_never letter slotted) nothing sizes table may
-        (set_var t base (total t l)) (drained_then t l) l.most (λ sparse. l.greatest) (λ full. apart (sym full ∙ slotted.stored)) (total t l)
-        (this_var t base (total t l)) (λ h. counted t l (subst (λ k. k ≤ greatest_position_count) (slots t l) h) ∙ sym (slots t l)) c insert places
-        (other_var t base (base + 1 + 2) (total t l) (λ e. absurd (omega (arith, e))) ∙ l.answer) (few_most t l) (λ full. apart (sym full ∙ slotted.stored)))
+        (inserted letters rest letter w g d n base count (Var (base + 1 + 2)) left through (counted_never letter slotted) nothing
+        sizes table may
+        (set_var t base (total t l)) (drained_then t l) l.most (λ sparse. l.greatest) (λ full. apart (sym full ∙ slotted.stored))
+        (total t l)
+        (this_var t base (total t l)) (λ h. counted t l (subst (λ k. k ≤ greatest_position_count) (slots t l) h) ∙ sym (slots t l))
+        c insert places
+        (other_var t base (base + 1 + 2) (total t l) (λ e. absurd (omega (arith, e))) ∙ l.answer) (few_most t l)
+        (λ full. apart (sym full ∙ slotted.stored)))
         (λ u z. record {
           drained = z.0;
           probes = times_of (probes_each letter l.most) rows.count;
@@ -145,7 +149,8 @@ module _ (letters rest : List Letter) (letter : Letter) (slotted : IsCounted let
                 ∙ other_var t base y (total t l) (λ e. absurd (omega (arith, e, less))) ∙ l.leaves.below y (omega (arith, less)) no;
             arrays = λ a st. z.1.arrays a st ∙ l.leaves.arrays a tt;
             turns = λ k. counted_then_placed (s.turns k) (t.turns k) (u.turns k) (passes_at letters d) rows.count
-                (probes_each letter l.most) k (two_here letters rest letter d rows.count (counted_unordered letter slotted) left) (l.leaves.turns k)
+                (probes_each letter l.most) k (two_here letters rest letter d rows.count (counted_unordered letter slotted) left)
+                (l.leaves.turns k)
                 (z.1.turns k);
           };
         })
@@ -153,7 +158,8 @@ module _ (letters rest : List Letter) (letter : Letter) (slotted : IsCounted let
           times_of (probes_each letter l.most) rows.count,
           (
             (λ j. counted_then_placed (s.turns j) (t.turns j) (turns j) (passes_at letters d) rows.count
-                (probes_each letter l.most) j (two_here letters rest letter d rows.count (counted_unordered letter slotted) left) (l.leaves.turns j) (r.0 j)),
+                (probes_each letter l.most) j (two_here letters rest letter d rows.count (counted_unordered letter slotted) left)
+                (l.leaves.turns j) (r.0 j)),
             r.1,
           ),
         ))
@@ -161,6 +167,8 @@ module _ (letters rest : List Letter) (letter : Letter) (slotted : IsCounted let
     pub counted_level : Does c (greatest ++ Set base (guarded_product count (Width (Var (base + 1 + 2)))) ∷ insert) s
         (LeavesLevel nothing letters sizes table w g d base s) (RefusesLevel letters sizes table d s)
     counted_level =
-        does_append c greatest (Set base (guarded_product count (Width (Var (base + 1 + 2)))) ∷ insert) s (LeavesGreatest (base + 1) rows s) _ _
+        does_append c greatest (Set base (guarded_product count (Width (Var (base + 1 + 2)))) ∷ insert) s
+        (LeavesGreatest (base + 1) rows s) _ _
         (does_weaker c greatest s _ _ _ _ (finds c rows s counts) (λ t l. l) (λ turns a k never. absurd never))
-        (λ t l. does_set c base (guarded_product count (Width (Var (base + 1 + 2)))) insert t (total t l) _ _ (total_told t l) (inserts t l))
+        (λ t l. does_set c base (guarded_product count (Width (Var (base + 1 + 2)))) insert t (total t l) _ _ (total_told t l)
+        (inserts t l))

@@ -66,7 +66,8 @@ some_same : {X : Type 0} (x y : X) → Some x ≡ Some y → x ≡ y
 some_same x y h = cc
 
 module _ (letters : List Letter) (letter : Letter) (slotted : IsCounted letter) (w g d n base : ℕ) (count : KExpr)
-    (bounded : Below base count) (left : drop d letters ≡ letter ∷ []) (through : n ≡ d + chain_length (letter ∷ [])) (nothing : ℕ) (sizes : List ℕ) (table : Table)
+    (bounded : Below base count) (left : drop d letters ≡ letter ∷ []) (through : n ≡ d + chain_length (letter ∷ [])) (nothing : ℕ)
+    (sizes : List ℕ) (table : Table)
     (may : MayDrain letters sizes table) (s : State) (dr : AreDrained nothing letters sizes table w g d count s) where
   abbrev rows_now : Rows
   rows_now = rows letters [] letter slotted w g d n base count bounded left through nothing sizes table may s dr
@@ -166,20 +167,25 @@ module _ (letters : List Letter) (letter : Letter) (slotted : IsCounted letter) 
     most_is = Var (base + 1 + 2)
 
     start_now : HoldsStart meaning letter (slice_index sizes d) drained_now.starts 0 (suc d) sized.arrays
-    start_now = start letters [] letter w g d n base count most_is left through (counted_never letter slotted) nothing sizes table may sized drained_now l.most
+    start_now = start letters [] letter w g d n base count most_is left through (counted_never letter slotted) nothing sizes table
+        may sized drained_now l.most
 
     abbrev old : StorageLevel
-    old = (start letters [] letter w g d n base count most_is left through (counted_never letter slotted) nothing sizes table may sized drained_now l.most).start
+    old = (start letters [] letter w g d n base count most_is left through (counted_never letter slotted) nothing sizes table may
+        sized drained_now l.most).start
 
     old_kind : meaning.kind old ≡ letter
-    old_kind = (start letters [] letter w g d n base count most_is left through (counted_never letter slotted) nothing sizes table may sized drained_now l.most).kind
+    old_kind = (start letters [] letter w g d n base count most_is left through (counted_never letter slotted) nothing sizes table
+        may sized drained_now l.most).kind
 
     abbrev needed_now : ℕ
-    needed_now = needed letters [] letter w g d n base count most_is left through (counted_never letter slotted) nothing sizes table may sized drained_now l.most
+    needed_now = needed letters [] letter w g d n base count most_is left through (counted_never letter slotted) nothing sizes table
+        may sized drained_now l.most
         (λ sparse. l.greatest) (λ full. apart (sym full ∙ slotted.stored))
 
     needed_told : needed_now ≡ dr.parents * slot_width l.most
-    needed_told = needed_is letters [] letter w g d n base count most_is left through (counted_never letter slotted) nothing sizes table may sized drained_now l.most
+    needed_told = needed_is letters [] letter w g d n base count most_is left through (counted_never letter slotted) nothing sizes
+        table may sized drained_now l.most
         (λ sparse. l.greatest) (λ full. apart (sym full ∙ slotted.stored))
         ∙ slots letters [] letter slotted w g d n base count bounded left through nothing sizes table may s dr t l
 
@@ -203,13 +209,15 @@ module _ (letters : List Letter) (letter : Letter) (slotted : IsCounted letter) 
     enough sparse p less = l.greatest.upto p
 
     may_fill_rows : MayInsertRows (meaning.size old) dr.parents rows_now
-    may_fill_rows = may_insert letters [] letter w g d n base count most_is left through (counted_never letter slotted) nothing sizes table may sized drained_now
+    may_fill_rows = may_insert letters [] letter w g d n base count most_is left through (counted_never letter slotted) nothing
+        sizes table may sized drained_now
         l.most (λ sparse. l.greatest) (λ full. apart (sym full ∙ slotted.stored))
 
     can : MayPrepare (meaning.kind old) (meaning.width old) l.most
     can = record {
       able = ap (λ k. (capabilities k).insert) old_kind ∙ slotted.inserted;
-      unprepared = (start letters [] letter w g d n base count most_is left through (counted_never letter slotted) nothing sizes table may sized drained_now
+      unprepared = (start letters [] letter w g d n base count most_is left through (counted_never letter slotted) nothing sizes
+          table may sized drained_now
           l.most).width;
       coordinates = few_most letters [] letter slotted w g d n base count bounded left through nothing sizes table may s dr t l;
     }
@@ -236,7 +244,8 @@ module _ (letters : List Letter) (letter : Letter) (slotted : IsCounted letter) 
 
       begun : Inserting meaning dr.parents l.most 0 0 rows_now dr.positions old h.left
       begun = begins meaning laws dr.parents l.most rows_now old may_fill_rows enough dr.positions h.left
-          (start letters [] letter w g d n base count most_is left through (counted_never letter slotted) nothing sizes table may sized drained_now l.most).keeps
+          (start letters [] letter w g d n base count most_is left through (counted_never letter slotted) nothing sizes table may
+          sized drained_now l.most).keeps
           can fits h.prepared dr.packed.many (λ i less. refl)
 
       held_now : meaning.holds h.left 0 (suc d) zeroed.arrays
@@ -252,7 +261,8 @@ module _ (letters : List Letter) (letter : Letter) (slotted : IsCounted letter) 
           → Does c (fill_rows_code (base + 1) w g insert) zeroed
           (LeavesRows old (suc d) g (base + 1) dr.parents l.most nothing width_all rows_now table.values zeroed) Never
       fills insert code c =
-          rows_filled c (suc d) d (base + 1) w g dr.parents l.most nothing width_all insert rows_now table.values old zeroed letter slotted code old_kind
+          rows_filled c (suc d) d (base + 1) w g dr.parents l.most nothing width_all insert rows_now table.values old zeroed letter
+          slotted code old_kind
           may_fill_rows enough each_first
           (record {
             words = key_words.words;
@@ -311,7 +321,8 @@ module _ (letters : List Letter) (letter : Letter) (slotted : IsCounted letter) 
 
         abbrev drained_all : AreDrained nothing letters sizes table w g (suc d) (Var base) (without_values u)
         drained_all =
-            after letters [] letter w g d n base count most_is left through (counted_never letter slotted) nothing sizes table may sized drained_now l.most
+            after letters [] letter w g d n base count most_is left through (counted_never letter slotted) nothing sizes table may
+            sized drained_now l.most
             (λ sparse. l.greatest) (λ full. apart (sym full ∙ slotted.stored)) width_all stands counted_of_kind (without_values u) placed
 
         positions_same : r.positions ≡ drained_all.positions
@@ -390,9 +401,11 @@ module _ (letters : List Letter) (letter : Letter) (slotted : IsCounted letter) 
         does_append c prepare _ sized _ _ _
         (does_weaker c prepare sized _ _ _ _
         (prepares c old old_kind
-        (start letters [] letter w g d n base count most_is left through (counted_never letter slotted) nothing sizes table may sized drained_now l.most).keeps
+        (start letters [] letter w g d n base count most_is left through (counted_never letter slotted) nothing sizes table may
+        sized drained_now l.most).keeps
         dr.parents l.most can (λ full. apart (sym full ∙ ap (λ k. (properties k).full) old_kind ∙ slotted.stored)) sized
-        (start letters [] letter w g d n base count most_is left through (counted_never letter slotted) nothing sizes table may sized drained_now l.most).held
+        (start letters [] letter w g d n base count most_is left through (counted_never letter slotted) nothing sizes table may
+        sized drained_now l.most).held
         (drained_now.told, (most_told, tt)))
         (λ v z. z)
         (λ turns a k z. (
@@ -401,7 +414,8 @@ module _ (letters : List Letter) (letter : Letter) (slotted : IsCounted letter) 
             (λ j. counted_then_placed (s.turns j) (t.turns j) (turns j) (passes_at letters d) table.count (slot_width l.most) j
                 (two_here letters [] letter d table.count (counted_unordered letter slotted) left) (l.leaves.turns j)
                 (let none = z.0 j in omega (arith, none))),
-            refused_at letters [] letter w g d n base count most_is left through (counted_never letter slotted) nothing sizes table may sized drained_now l.most
+            refused_at letters [] letter w g d n base count most_is left through (counted_never letter slotted) nothing sizes table
+                may sized drained_now l.most
                 (λ sparse. l.greatest) (λ full. apart (sym full ∙ slotted.stored)) a k z.1,
           ),
         )))

@@ -75,7 +75,8 @@ apart e = cc
 
 module _ (c : Setting) (level d base w g parents most nothing total : ℕ) (insert : List KStmt) (rows : Rows) (value_of : ℕ → ℕ)
     (old : StorageLevel) (s0 : State)
-    (letter : Letter) (slotted : IsCounted letter) (code : InsertCode meaning letter 0 level (Var (base + 4) ∷ At (Key w d) (Var base) ∷ []) (base + 6) insert)
+    (letter : Letter) (slotted : IsCounted letter) (code : InsertCode meaning letter 0 level
+    (Var (base + 4) ∷ At (Key w d) (Var base) ∷ []) (base + 6) insert)
     (kind : meaning.kind old ≡ letter) (may : MayInsertRows (meaning.size old) parents rows)
     (enough : (properties (meaning.kind old)).full ≡ false → (p : ℕ) → p < parents → begun_below rows p rows.count ≤ most)
     (first : (i : ℕ) → i < rows.count → rows.first i ≡ true) (key : HasWords (Key w d) rows.count rows.coord s0.arrays)

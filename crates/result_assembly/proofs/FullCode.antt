@@ -37,7 +37,8 @@ use Rattle.result_assembly.proofs.Steps.{size_here, rows_here, small, starts_her
 use Rattle.result_assembly.proofs.Turns.{times_of, times_most, pass_here, none_then_placed}
 
 module _ (letters rest : List Letter) (letter : Letter) (full : (properties letter).full ≡ true) (w g d n base : ℕ) (count : KExpr)
-    (insert : List KStmt) (bounded : Below base count) (left : drop d letters ≡ letter ∷ rest) (through : n ≡ d + chain_length (letter ∷ rest))
+    (insert : List KStmt) (bounded : Below base count) (left : drop d letters ≡ letter ∷ rest)
+    (through : n ≡ d + chain_length (letter ∷ rest))
     (places : PlacesRows meaning letter (suc d) (base + 1) w g count (Num 0) (begins_test (base + 1) w n)
     (At (Key w d) (Var (base + 1))) insert)
     (c : Setting) (nothing : ℕ) (sizes : List ℕ) (table : Table) (may : MayDrain letters sizes table)
@@ -88,7 +89,8 @@ module _ (letters rest : List Letter) (letter : Letter) (full : (properties lett
       (λ u z. record {
         drained = z.0;
         probes = times_of (probes_each letter 0) rows.count;
-        few = λ width narrow. let none = full_unprobed letter full in times_most rows.count (probes_each letter 0) width (omega (arith, none));
+        few = λ width narrow. let none = full_unprobed letter full in times_most rows.count (probes_each letter 0) width
+            (omega (arith, none));
         leaves = record {
           below = λ y less no. z.1.below y (omega (arith, less)) no ∙ other_var s base y total (λ e. absurd (omega (arith, e, less)));
           arrays = λ a st. z.1.arrays a st;
@@ -137,9 +139,11 @@ module _ (letters rest : List Letter) (letter : Letter) (full : (properties lett
           at_most : 0 + total ≤ slice_index (positions_from table 0 1 letters sizes) d
           at_most =
               let f = product.2.within in
-              let told = told_level letters rest letter w g d n base count (Num 0) left through (full_never letter full) nothing sizes table may
+              let told = told_level letters rest letter w g d n base count (Num 0) left through (full_never letter full) nothing
+              sizes table may
               s dr 0 (λ stored. apart (sym full ∙ stored)) (λ _. refl) in
-              let same = needed_is letters rest letter w g d n base count (Num 0) left through (full_never letter full) nothing sizes table may
+              let same = needed_is letters rest letter w g d n base count (Num 0) left through (full_never letter full) nothing
+              sizes table may
               s dr 0 (λ stored. apart (sym full ∙ stored)) (λ _. refl) in
               let as_many = needs in omega (arith, f, told, same, as_many)
       by_limit (inr fits) =
@@ -153,4 +157,5 @@ module _ (letters rest : List Letter) (letter : Letter) (full : (properties lett
 
   pub full_level : Does c (Set base (guarded_product count (At (Dimension 0 (suc d)) (Num 0))) ∷ (guard_code base ++ insert)) s
       (LeavesLevel nothing letters sizes table w g d base s) (RefusesLevel letters sizes table d s)
-  full_level = does_set c base (guarded_product count (At (Dimension 0 (suc d)) (Num 0))) (guard_code base ++ insert) s total _ _ product.1 guarded
+  full_level = does_set c base (guarded_product count (At (Dimension 0 (suc d)) (Num 0))) (guard_code base ++ insert) s total _ _
+      product.1 guarded

@@ -91,7 +91,8 @@ module _ (letters rest : List Letter) (letter : Letter) (w g d n : ℕ) (count :
   fill_here =
       let new = new_is letter size_here in
       may_fill meaning laws letters sizes (length letters) table may.order d n dr.levels dr.positions dr.parents size_here
-      (new_level letter size_here) rest dr.packed (left_as (new_level letter size_here) new.kind) (through_as (new_level letter size_here) new.kind)
+      (new_level letter size_here) rest dr.packed (left_as (new_level letter size_here) new.kind)
+      (through_as (new_level letter size_here) new.kind)
       below_here (subst (λ k. IsNew meaning k size_here (new_level letter size_here)) (sym new.kind) new)
 
   n_within : n ≤ length letters

@@ -40,7 +40,8 @@ use Rattle.result_assembly.proofs.ValueCode.{values_stored}
 module _ (format : List FormatLevel) (w g base nothing : ℕ) (code : List KStmt) (is : IsFormat format)
     (first : DrainsFirst (letters_of format) (length format) w g base code)
     (once : passes_of (letters_of format) (length format) + 1 ≤ most_passes (length format))
-    (last : IsAboveLast (letters_of format) None) (c : Setting) (ranges : List ℕ) (table : Table) (may : MayDrain (letters_of format) (in_level_order format ranges) table)
+    (last : IsAboveLast (letters_of format) None) (c : Setting) (ranges : List ℕ) (table : Table)
+    (may : MayDrain (letters_of format) (in_level_order format ranges) table)
     (s : State) (ready : IsReady nothing (letters_of format) (in_level_order format ranges) table w g s) where
   abbrev values_here : List KStmt
   values_here = values_code (base + length format + 1) w g (Var (base + length format)) nothing

@@ -70,6 +70,7 @@ fronts_never_fall s formats numbered order ordered front rest parted outer loops
     are.shared in
     let told = λ (point : ℕ → ℕ). ap (λ vs. take (length front) (coords_at point vs)) parted ∙ taken_front point front rest in (
       rising,
-      subst NeverFalls (sym (rows_reread a layout stored inputs.ranges (left_in_order s order) front (take (length front)) told loops start))
+      subst NeverFalls (sym (rows_reread a layout stored inputs.ranges (left_in_order s order) front (take (length front)) told
+          loops start))
           rising,
     )

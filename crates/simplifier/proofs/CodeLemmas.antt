@@ -146,7 +146,8 @@ module _ (over : Arithmetic) where
       → SameRuns over (out ++ code) (out ++ s ∷ [])
   runs_behind out code s h = record {
     from = λ c q n st. plain_append c n out code st
-        ∙ then_same (unnumbered (run_list c n out st)) (λ st. unnumbered (run_list c n code st)) (λ st. unnumbered (run_list c n (s ∷ []) st))
+        ∙ then_same (unnumbered (run_list c n out st)) (λ st. unnumbered (run_list c n code st))
+        (λ st. unnumbered (run_list c n (s ∷ []) st))
         (λ st. h c q n st ∙ sym (ap unnumbered (alone c n s st)))
         ∙ sym (plain_append c n out (s ∷ []) st);
   }
@@ -222,7 +223,8 @@ module _ (over : Arithmetic) {A : Type 0} where
   added (Ok done) new old s t is h = subst (λ code. SameRuns over code (old ++ t ∷ [])) (sym is) (pushed over old s t h)
   added (Err why) new old s t is h = tt
 
-  pub runs_result : (r : Result A AllocError) (new a b : List KStmt) → OnOk r (SameRuns over new a) → SameRuns over a b → OnOk r (SameRuns over new b)
+  pub runs_result : (r : Result A AllocError) (new a b : List KStmt) → OnOk r (SameRuns over new a) → SameRuns over a b
+      → OnOk r (SameRuns over new b)
   runs_result (Ok done) new a b h g = runs_then over new a b h g
   runs_result (Err why) new a b h g = tt
 

@@ -1,5 +1,5 @@
--- The probes of loops. As in Chou and others, 'Format Abstraction for Sparse Tensor Algebra Compilers' (OOPSLA 2018): a coordinate is located
--- in a level without order by looking at the positions of a segment one after another, each once at most.
+-- The probes of loops. As in Chou and others, 'Format Abstraction for Sparse Tensor Algebra Compilers' (OOPSLA 2018): a coordinate is
+-- located in a level without order by looking at the positions of a segment one after another, each once at most.
 use Rattle.std.specs.Prelude.{ℕ, ◌+◌, if◌then◌else◌}
 use Rattle.loop_code.specs.declared.loops.LoopCode.{LoopCode, Add, Both', Loop', Sum', Row_of-LoopCode, end_of-LoopCode, more_of-LoopCode}
 use Rattle.loop_code.specs.Loops.{Layout, Stored, Env, moved}

@@ -34,7 +34,8 @@ greatest_alone : (n m : ℕ) (ns : List ℕ) → greatest_of ns ≡ n → m ≡ 
 greatest_alone n m ns is same = let most : max m (greatest_of ns) ≡ n = omega (arith, is, same) in most
 
 -- an access whose variable is the first one
-pub first_stands : (tensor mode v : ℕ) (first : Access) (accesses : List Access) → first.tensor ≡ tensor → slice_get first.vars mode ≡ Some v
+pub first_stands : (tensor mode v : ℕ) (first : Access) (accesses : List Access) → first.tensor ≡ tensor
+    → slice_get first.vars mode ≡ Some v
     → StandsIn tensor mode accesses Nothing → StandsIn tensor mode (first ∷ accesses) (One v)
 first_stands tensor mode v first accesses same is none = λ ranges.
     ap greatest_of (ranges_there ranges tensor mode first accesses (Some v) same is)
@@ -44,7 +45,8 @@ first_stands tensor mode v first accesses same is none = λ ranges.
     greatest_zero n ns is = ap (λ rest. greatest_of (n ∷ rest)) is ∙ (let one : max n 0 ≡ n = omega arith in one)
 
 -- one more that has the same
-pub again_stands : (tensor mode v : ℕ) (first : Access) (accesses : List Access) → first.tensor ≡ tensor → slice_get first.vars mode ≡ Some v
+pub again_stands : (tensor mode v : ℕ) (first : Access) (accesses : List Access) → first.tensor ≡ tensor
+    → slice_get first.vars mode ≡ Some v
     → StandsIn tensor mode accesses (One v) → StandsIn tensor mode (first ∷ accesses) (One v)
 again_stands tensor mode v first accesses same is one = λ ranges.
     ap greatest_of (ranges_there ranges tensor mode first accesses (Some v) same is)

@@ -64,7 +64,8 @@ all_each : (P : StoreFact → Type 0) (facts : List StoreFact) → Each P facts 
 all_each P [] h = All-nil P
 all_each P (f ∷ fs) h = All-cons P f fs h.0 (all_each P fs h.1)
 
-small_at : (xs : List ℕ) (i v : ℕ) → All (λ range. range ≤ greatest_position_count) xs → slice_get xs i ≡ Some v → v ≤ greatest_position_count
+small_at : (xs : List ℕ) (i v : ℕ) → All (λ range. range ≤ greatest_position_count) xs → slice_get xs i ≡ Some v
+    → v ≤ greatest_position_count
 small_at xs i v h is =
     subst (λ range. range ≤ greatest_position_count) (get_or_from_slice_get xs i v v is) (h i v (slice_get_within xs i v is))
 
@@ -89,7 +90,8 @@ pub none_true : (s : Statement) (formats : List (List FormatLevel)) (facts : Lis
 none_true s formats facts is nothing store arrays of given = subst (Each (IsFact arrays)) (sym is) tt
 
 -- the facts of one tensor more
-pub more_true : (s : Statement) (formats : List (List FormatLevel)) (tensor : ℕ) (format : List FormatLevel) (facts more all : List StoreFact)
+pub more_true : (s : Statement) (formats : List (List FormatLevel)) (tensor : ℕ) (format : List FormatLevel)
+    (facts more all : List StoreFact)
     → format ≡ format_of formats tensor → AreTrueOfOperands s formats facts → IsTrueOfTensor s tensor format more → all ≡ facts ++ more
     → AreTrueOfOperands s formats all
 more_true s formats tensor format facts more all format_is old new is nothing store arrays of given =

@@ -40,7 +40,8 @@ handed_at : (n : ℕ) (letters : List Letter) (sizes : List ℕ) (parts : List L
     (dl : Letter) (dp : LevelWords) (d : StorageLevel) → n < length letters → n < length sizes → n < length parts → n < length ls
     → AreHandedOver (drop n letters) (drop n sizes) (drop n parts) parents (drop n ls)
     → IsHandedOver (get_or letters n dl) (get_or sizes n 0) parents (get_or parts n dp) (get_or ls n d)
-    × AreHandedOver (drop (suc n) letters) (drop (suc n) sizes) (drop (suc n) parts) (positions_in parents (get_or ls n d)) (drop (suc n) ls)
+    × AreHandedOver (drop (suc n) letters) (drop (suc n) sizes) (drop (suc n) parts) (positions_in parents (get_or ls n d))
+    (drop (suc n) ls)
 handed_at n [] sizes parts ls parents dl dp d a b c e h = absurd (omega (arith, a))
 handed_at n (letter ∷ letters) [] parts ls parents dl dp d a b c e h = absurd (omega (arith, b))
 handed_at n (letter ∷ letters) (size ∷ sizes) [] ls parents dl dp d a b c e h = absurd (omega (arith, c))

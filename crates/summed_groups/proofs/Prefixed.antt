@@ -36,7 +36,8 @@ put_behind a front pair (first ∷ others) =
     ∙ by (slice_cmp nat_cmp pair.coords first.coords)
   where
     by : (r : Ordering)
-        → put_by a r (with_front front pair) (with_front front first) (with_fronts front others) (with_fronts front (put_pair a pair others))
+        → put_by a r (with_front front pair) (with_front front first) (with_fronts front others)
+        (with_fronts front (put_pair a pair others))
         ≡ with_fronts front (put_by a r pair first others (put_pair a pair others))
     by Less = refl
     by Equal = refl
@@ -45,4 +46,5 @@ put_behind a front pair (first ∷ others) =
 pub sums_behind : (a : Arithmetic) (front : List ℕ) (rows : List Entry)
     → sums_of a (with_fronts front rows) ≡ with_fronts front (sums_of a rows)
 sums_behind a front [] = refl
-sums_behind a front (row ∷ rows) = ap (put_pair a (with_front front row)) (sums_behind a front rows) ∙ put_behind a front row (sums_of a rows)
+sums_behind a front (row ∷ rows) = ap (put_pair a (with_front front row)) (sums_behind a front rows)
+    ∙ put_behind a front row (sums_of a rows)

@@ -80,9 +80,11 @@ places_from s base places variables at = record {
     some_same : (p q : AccessPlace) → Some p ≡ Some q → p ≡ q
     some_same p q h = cc
 
-    there : (tensors : List ℕ) (k : ℕ) (p : AccessPlace) → slice_get (map (new_access base (first_summed s)) tensors) k ≡ Some p → base ≤ p.cursor
+    there : (tensors : List ℕ) (k : ℕ) (p : AccessPlace) → slice_get (map (new_access base (first_summed s)) tensors) k ≡ Some p
+        → base ≤ p.cursor
     there [] k p is = absurd (cc is)
-    there (t ∷ tensors) zero p is = subst (λ (q : AccessPlace). base ≤ q.cursor) (some_same (new_access base (first_summed s) t) p is) (omega arith)
+    there (t ∷ tensors) zero p is = subst (λ (q : AccessPlace). base ≤ q.cursor)
+        (some_same (new_access base (first_summed s) t) p is) (omega arith)
     there (t ∷ tensors) (suc k) p is = there tensors k p is
 
 -- a result has few levels

@@ -226,7 +226,8 @@ module _ (a : Arithmetic) (laws : Laws a) (s : Statement) (formats : List (List 
 
       ends_unrefused : Ends a (length store.format) kernel arrays IsUnrefused
       ends_unrefused =
-          ends_weaker a (length store.format) kernel arrays (ToldOf (length store.format) (λ u. AreMost u.turns) Never) IsUnrefused unrefused
+          ends_weaker a (length store.format) kernel arrays (ToldOf (length store.format) (λ u. AreMost u.turns) Never) IsUnrefused
+          unrefused
           (ends_as_code_does a (length store.format) kernel arrays (λ u. AreMost u.turns) Never
           (subst (λ (b : List KStmt). Does setting b begin (λ u. AreMost u.turns) Never) (sym body)
           (does_append setting top code begin HasTop (λ u. AreMost u.turns) Never (tops setting begin) behind)))

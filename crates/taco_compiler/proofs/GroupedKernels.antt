@@ -1,5 +1,5 @@
--- A kernel whose code appends rows to its result out of a workspace inside its outer loops is compiled where the statement calls for one: it
--- is right and sound, its loops turn no more often than the statement costs, and it drains no more rows than the support has points.
+-- A kernel whose code appends rows to its result out of a workspace inside its outer loops is compiled where the statement calls for one:
+-- it is right and sound, its loops turn no more often than the statement costs, and it drains no more rows than the support has points.
 use Rattle.std.specs.Prelude.{◌≡◌, ℕ, ◌+◌, ◌*◌, ◌≤◌, true, if◌then◌else◌, List, [], ◌++◌, length, take, drop, slice_index, refl}
 use Rattle.std.proofs.Common.{◌∙◌, sym, ap, subst, arith}
 use Rattle.std.proofs.lemmas.List.{length-map, take-append-drop}
@@ -104,7 +104,8 @@ module _ (a : Arithmetic) (laws : Laws a) (s : Statement) (formats : List (List 
       (places : Places) (at : AreAtBase s (behind g.outer.now) places) (from : AreOutside 0 (behind g.outer.now) places)
       (top begin ready emitted end : List KStmt) (tops : StartsAt (behind g.outer.now) top)
       (begins : BeginsFirst (letters_in g.outer.now) (length g.outer.now.levels) g.outer.now.base (length g.outer.now.levels) begin)
-      (free past : ℕ) (spaces : List ℕ) (groups : GroupsFromTop a within drains g s formats order places loops free past spaces ready emitted)
+      (free past : ℕ) (spaces : List ℕ) (groups : GroupsFromTop a within drains g s formats order places loops free past spaces
+      ready emitted)
       (chain : IsChain (take g.first keys) loops) (head : take g.first keys ≡ head_variables s order)
       (rest : drop g.first keys ≡ tail_of s order) (ended : ℕ)
       (ending : EndsFirst (letters_in g.outer.now) g.outer.now.base ended (length g.outer.now.levels) end) (kernel : Kernel)
@@ -117,7 +118,8 @@ module _ (a : Arithmetic) (laws : Laws a) (s : Statement) (formats : List (List 
     Allowed = AtOneHead a s order g.first
 
     abbrev appends : AppendsFromTop a k s formats places keys loops 0 past spaces Allowed (ready ++ emitted)
-    appends = appends_by_groups a laws s formats c in_order f loops own_loops within drains g own places free past spaces ready emitted groups
+    appends = appends_by_groups a laws s formats c in_order f loops own_loops within drains g own places free past spaces ready
+        emitted groups
 
     -- a run
     module _ (store : Store) (is : IsStoreOf s formats store) (arrays : Arrays) (given : IsGiven a.zero store arrays) where

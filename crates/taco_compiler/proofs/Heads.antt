@@ -45,7 +45,8 @@ module _ (s : Statement) (order : List ℕ) where
   before_tail (suc n) (v ∷ vs) within is =
       by (is_inside_sum s order v) is (before_tail n vs (omega (arith, within))) ∙ sym (take_while-cons is_outside v vs)
     where
-      by : (b : Bool) → drop n vs ≡ (if b then (v ∷ vs) else from_sum s order vs) → (drop n vs ≡ from_sum s order vs → take n vs ≡ before vs)
+      by : (b : Bool) → drop n vs ≡ (if b then (v ∷ vs) else from_sum s order vs)
+          → (drop n vs ≡ from_sum s order vs → take n vs ≡ before vs)
           → v ∷ take n vs ≡ cond (not b) (v ∷ before vs) []
       by true all later = let same = ap length all in let left = length-drop n vs in absurd (omega (arith, same, left))
       by false all later = ap (λ us. v ∷ us) (later all)

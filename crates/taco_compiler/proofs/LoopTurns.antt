@@ -70,7 +70,8 @@ module _ (a : Arithmetic) (laws : Laws a) (s : Statement) (formats : List (List 
       let groups = real_groups a s formats (operand_of store) (told_by a s store) sums
       (has_storages s formats store read_store a) in
       let turns = turns_within (layout_of s formats) stored ranges loops start in
-      let costs = loops_cost_no_more s formats read_store.numbered sums l.suits l.formed c in_order shared loops l.shape l.placed l.found l.in_place
+      let costs = loops_cost_no_more s formats read_store.numbered sums l.suits l.formed c in_order shared loops l.shape l.placed
+      l.found l.in_place
       l.needed stored ranges groups in
       subst (λ held. merge_turns (layout_of s formats) held ranges loops start ≤ statement_cost s formats order stored ranges)
       (sym same_stored) (through (merge_turns (layout_of s formats) stored ranges loops start)
@@ -83,7 +84,8 @@ module _ (a : Arithmetic) (laws : Laws a) (s : Statement) (formats : List (List 
       let stored = stored_of s (operand_of store) in
       let ranges = slice_index store.ranges in
       let turns = skips_within (layout_of s formats) stored ranges loops start in
-      let costs = loops_repeat_no_more s formats read_store.numbered sums l.suits l.formed c in_order shared loops l.shape l.placed l.found l.in_place
+      let costs = loops_repeat_no_more s formats read_store.numbered sums l.suits l.formed c in_order shared loops l.shape l.placed
+      l.found l.in_place
       l.needed stored ranges in
       subst (λ held. skip_turns (layout_of s formats) held ranges loops start ≤ statement_repeats s formats order stored ranges)
       (sym same_stored) (through (skip_turns (layout_of s formats) stored ranges loops start)

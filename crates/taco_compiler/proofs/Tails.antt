@@ -1,5 +1,6 @@
 -- The tail of a result in a loop order: the modes of its left variables behind the first summed one.
-use Rattle.std.specs.Prelude.{◌≡◌, ℕ, zero, suc, ◌+◌, ◌-◌, ◌<◌, ◌≤◌, true, false, if◌then◌else◌, List, [], ◌∷◌, All, length, take, drop, slice_index_or, refl}
+use Rattle.std.specs.Prelude.{◌≡◌, ℕ, zero, suc, ◌+◌, ◌-◌, ◌<◌, ◌≤◌, true, false, if◌then◌else◌, List, [], ◌∷◌, All}
+use Rattle.std.specs.Prelude.{length, take, drop, slice_index_or, refl}
 use Rattle.std.proofs.Common.{◌∙◌, sym, ap, subst, arith}
 use Rattle.std.proofs.lemmas.List.{drop_more, length-drop, take_all}
 use Rattle.std.proofs.lemmas.List.Elements.{All-drop}
@@ -77,7 +78,8 @@ tail_many s formats order first modes tail =
 -- the modes behind those of the first ones are the tail's
 pub tail_is : (s : Statement) (formats : List (List FormatLevel)) (order : List ℕ) → MayBeLowered s formats order
     → (AreAllDense (format_of formats s.left.tensor) → ⊥) → (first : ℕ) (all modes : List ℕ) → first ≤ length (left_in_order s order)
-    → AreOutsideSums s order (take first (left_in_order s order)) → drop first (left_in_order s order) ≡ tail_of s order → all ≡ modes_of (format_of formats s.left.tensor)
+    → AreOutsideSums s order (take first (left_in_order s order)) → drop first (left_in_order s order) ≡ tail_of s order
+    → all ≡ modes_of (format_of formats s.left.tensor)
     → modes ≡ take (length all - first) (drop first all) → IsTail s formats order first modes
 tail_is s formats order ready some first all modes within outside rest is are =
     let long = length-drop first all in

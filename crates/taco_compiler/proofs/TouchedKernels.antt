@@ -1,6 +1,6 @@
--- A kernel whose code adds the rows of a statement's loops to a workspace of its result's one variable, and fills the result from the sums, is
--- compiled where the result's level has no order: it is right and sound, its loops turn no more often than the statement costs, and there are
--- two drain turns for each point at most.
+-- A kernel whose code adds the rows of a statement's loops to a workspace of its result's one variable, and fills the result from the sums,
+-- is compiled where the result's level has no order: it is right and sound, its loops turn no more often than the statement costs, and
+-- there are two drain turns for each point at most.
 use Rattle.std.specs.Prelude.{◌≡◌, ℕ, ◌*◌, ◌≤◌, ◌<◌, List, [], ◌∷◌, ◌++◌, length}
 use Rattle.std.specs.Prelude.{Bool, refl, slice_index, true, if◌then◌else◌}
 use Rattle.std.specs.List.{list_any}
@@ -128,7 +128,8 @@ module _ (a : Arithmetic) (laws : Laws a) (s : Statement) (formats : List (List 
   bound_there : TargetIsBound keys [] loops
   bound_there =
       keys_bound s formats ordered order l.is_order loops
-      (lowered_loops_go_through s f.sparse.numbered formats (flat_sums s formats f.sparse.flat) c in_order loops l.shape l.starts true).bound
+      (lowered_loops_go_through s f.sparse.numbered formats (flat_sums s formats f.sparse.flat) c in_order loops l.shape l.starts
+      true).bound
 
   module _ (k : TouchedSink) (places : Places) (at : AreAtBase s 0 places) (below : AreBelow 3 places) (top begin fill : List KStmt)
       (emitted : Emitted) (tops : StartsAt 0 top) (begins : BeginsTouched k begin)

@@ -95,7 +95,8 @@ KeepsDrains a s formats order kernel =
     → Ends a (length store.format) kernel arrays (DrainsFew s formats order (told_by a s store) store.format)
 
 -- so many points the support has; and a coordinate is sought in each access at most for each merge turn that the cost allows, and in each
--- level of the result for each point, within so many probe turns as the widest level without order has slots, of an operand or of the result
+-- level of the result for each point, within so many probe turns as the widest level without order has slots, of an operand or of the
+-- result
 pub record AreWithinSearches (s : Statement) (formats : List (List FormatLevel)) (order : List ℕ) (store : Store) (inputs : Inputs)
     (arrays : Arrays) (probes : ℕ) : Type 0 where
   pub points : ℕ
@@ -169,8 +170,8 @@ KeepsMarks a s formats order kernel =
 
 -- the kernel is right and sound, its loops turn within the cost, the rows of its workspace are gone over no more often than that, and
 -- coordinates are sought within the widths of levels without order. It has no workspace where the statement calls for none, and is refused
--- none there; else it has those that are called for. Where each level of the result has an order it needs the pairs of one head at most, and
--- where the workspaces' key is one variable alone, one is refused a growth only if that variable's range is too large for marks.
+-- none there; else it has those that are called for. Where each level of the result has an order it needs the pairs of one head at most,
+-- and where the workspaces' key is one variable alone, one is refused a growth only if that variable's range is too large for marks.
 -- Whatever is said of a run here, the run takes back nothing that it appended to the result (`Ends`)
 -- The statement is one whose loops a kernel goes through, which reads nested sums as tensors
 pub record IsCompiled (a : Arithmetic) (s : Statement) (formats : List (List FormatLevel)) (order : List ℕ) (kernel : Kernel)

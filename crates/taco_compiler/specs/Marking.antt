@@ -30,8 +30,8 @@ pub record MarksLoops (a : Arithmetic) (k : TouchedSink) (s : Statement) (format
   pub below : AreBelow 3 places
   pub adds : AddsLoops a touched_sink k s formats places (left_in_order s order) loops 3 1 emitted.lists emitted.code
 
--- it sums up the workspace in its list, puts each sum at the one position above all levels in scratch list 0, and fills all levels and values
--- from them, in the format and with this value where no row is
+-- it sums up the workspace in its list, puts each sum at the one position above all levels in scratch list 0, and fills all levels and
+-- values from them, in the format and with this value where no row is
 pub record FillsFromSums (format : List FormatLevel) (nothing : ℕ) (k : TouchedSink) (code : List KStmt) : Type 0 where
   pub summed : List KStmt
   pub sums : SumsTouched k 0 summed

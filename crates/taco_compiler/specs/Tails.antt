@@ -17,15 +17,16 @@ from_sum s order (v ∷ vs) = if is_inside_sum s order v then (v ∷ vs) else fr
 abbrev pub tail_of : Statement → List ℕ → List ℕ
 tail_of s order = from_sum s order (left_in_order s order)
 
--- the numbers of keys of the workspaces for a tail of so many variables: one of marks and sums and one that lists what was touched, where it
--- is one variable, else one of a key for each
+-- the numbers of keys of the workspaces for a tail of so many variables: one of marks and sums and one that lists what was touched, where
+-- it is one variable, else one of a key for each
 abbrev pub tail_workspaces : ℕ → List ℕ
 tail_workspaces n = if nat_eq n 1 then (1 ∷ 1 ∷ []) else (n ∷ [])
 
 -- all rows go through a workspace where some level of the result has no order, else those of the tail alone
 abbrev pub called_workspaces : Statement → List (List FormatLevel) → List ℕ → List ℕ
 called_workspaces s formats order =
-    if list_any is_unordered (result_levels s formats) then tail_workspaces (length s.left.vars) else tail_workspaces (length (tail_of s order))
+    if list_any is_unordered (result_levels s formats) then tail_workspaces (length s.left.vars) else tail_workspaces
+    (length (tail_of s order))
 
 -- the variables that are the keys of the workspaces that are called for: all left ones, or those of the tail
 abbrev pub workspace_keys : Statement → List (List FormatLevel) → List ℕ → List ℕ

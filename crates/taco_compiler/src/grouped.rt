@@ -73,8 +73,8 @@ fn group_rows<S: Semiring, W: DrainedWorkspace>(
     Ok(emitted)
 }
 
-/// A kernel over a semiring whose rows are added to the result by groups, out of this sink's workspace, which the code `begun` leaves empty;
-/// the kernel has these workspaces. Refused for want of memory alone.
+/// A kernel over a semiring whose rows are added to the result by groups, out of this sink's workspace, which the code `begun` leaves
+/// empty; the kernel has these workspaces. Refused for want of memory alone.
 fn kernel_around<S: Semiring, W: DrainedWorkspace>(
     alloc: Global,
     statement: &Statement,
@@ -126,8 +126,8 @@ pub(crate) fn two_workspaces(alloc: Global) -> Result<Items<u64>, AllocError>
     Ok(workspaces)
 }
 
-/// A kernel over a semiring whose rows are appended to the result out of marks and sums, or above a range out of a list, of the one variable
-/// of the tail. Refused for want of memory alone.
+/// A kernel over a semiring whose rows are appended to the result out of marks and sums, or above a range out of a list, of the one
+/// variable of the tail. Refused for want of memory alone.
 fn marked_kernel<S: Semiring>(
     alloc: Global,
     statement: &Statement,

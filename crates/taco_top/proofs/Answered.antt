@@ -20,7 +20,8 @@ use Rattle.taco_top.proofs.Executes.{exec_stopped}
 use Rattle.taco_top.proofs.Stopped.{reads_nothing, stopped, stops_by_words}
 
 -- the words of `exec` are refused, and no file was opened
-stops_by_exec_words : (words : List (List ℕ)) (files : FolderState) (why : Fault) → IsExecRefused words why → StopsExec words files files why
+stops_by_exec_words : (words : List (List ℕ)) (files : FolderState) (why : Fault) → IsExecRefused words why
+    → StopsExec words files files why
 stops_by_exec_words words files (fault.Notation why) is = record { folder_is = refl; refused = is }
 stops_by_exec_words words files (fault.Named s (named.Name why)) is = record { folder_is = refl; refused = is }
 stops_by_exec_words words files (fault.Named s (named.Binding why)) is = record { folder_is = refl; refused = is }

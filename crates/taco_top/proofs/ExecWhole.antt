@@ -1,5 +1,6 @@
 -- Where all input of `exec` is whole, it ends with its result.
-use Rattle.std.specs.Prelude.{◌≡◌, ℕ, zero, suc, ◌-◌, ◌+◌, ◌≤◌, ◌⊎◌, true, List, [], ◌∷◌, ◌++◌, length, map, Option, Some, None, Result, Ok, Err}
+use Rattle.std.specs.Prelude.{◌≡◌, ℕ, zero, suc, ◌-◌, ◌+◌, ◌≤◌, ◌⊎◌, true, List, [], ◌∷◌, ◌++◌, length, map, Option}
+use Rattle.std.specs.Prelude.{Some, None, Result, Ok, Err}
 use Rattle.std.specs.Prelude.{Vec, String, string_bytes, slice_index, refl, ⊤}
 use Rattle.std.specs.Option.{option_map}
 use Rattle.std.proofs.Common.{◌∙◌, sym, ap, subst, inl, inr, arith}
@@ -126,7 +127,8 @@ module _ (words : List (List ℕ)) (r q : ExecRequest) (asks : AsksExec words r)
   same_binds =
       subst (λ u. Binds u asks.rest true q.formats q.files q.given) (sym same_statement)
       (subst (λ rest. Binds q.statement rest true q.formats q.files q.given)
-      (sym (one_rest words r.path q.path r.budget q.budget asks.names.text ask.names.text asks.rest ask.rest asks.names.line ask.names.line))
+      (sym (one_rest words r.path q.path r.budget q.budget asks.names.text ask.names.text asks.rest ask.rest asks.names.line
+      ask.names.line))
       ask.binds)
 
   one_request : r ≡ q

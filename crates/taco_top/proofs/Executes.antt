@@ -79,7 +79,8 @@ module _ (words : List (List ℕ)) (r : ExecRequest) (asks : AsksExec words r) w
       → IsNumberedWithSums r.statement → IsRunnable r.statement r.formats r.given entries bounds
   exec_runnable over old new entries bounds read numbered =
       read_is_runnable over.arithmetic over.has_minus over.is_signed r.statement numbered well_named
-      (text_read names.text names.named.written r.statement names.named.notation names.named.stands_for) asks.rest true r.formats r.files r.given asks.binds
+      (text_read names.text names.named.written r.statement names.named.notation names.named.stands_for) asks.rest true r.formats
+      r.files r.given asks.binds
       old new (exec_paths r) (length (exec_paths r)) entries bounds (readable_paths numbered) refl read
 
   exec_matrix : asks_matrix (path_of r.files 0) ≡ true → IsMatrixOrder (length r.statement.left.vars)
@@ -262,7 +263,8 @@ module _ (words : List (List ℕ)) (old new : FolderState) (r : ExecRequest) (ke
     runs_ready kept path_is numbered ran are =
         let runs = as_run (λ v fs gs. IsGivenRun v.arithmetic r.statement fs kernel gs entries bounds r.budget kept.result.shape
         kept.result.entries kept.result.tensor kept.result.turns) ran in
-        let fits = (exec_runnable words r input.asks (kernel_values kernel) input.between new entries bounds input.reads numbered).ranges_fit
+        let fits = (exec_runnable words r input.asks (kernel_values kernel) input.between new entries bounds input.reads
+        numbered).ranges_fit
         runs.ranges runs.ranges_are in
         let vars = r.statement.left.vars in
         let is_shape = subst IsShape (sym runs.shape_is) (ranges_shape runs.ranges vars numbered.left.order fits.small) in

@@ -14,7 +14,8 @@ use Rattle.expr_terms.specs.Terms.{contains, stands_in, stands_inside}
 use Rattle.mode_planner.specs.Planned.{IsPlanned}
 use Rattle.mode_planner.specs.declared.planned.Planned.{Planned}
 use Rattle.mode_planner.proofs.PlannedValues.{planned_stands}
-use Rattle.nested_sums.specs.Bound.{AreApart, HasNoBadSum, IsClear, IsClear_in, IsClearSum, bound_by, bound_in, bound_inside, bounds, none_bound}
+use Rattle.nested_sums.specs.Bound.{AreApart, HasNoBadSum, IsClear, IsClear_in, IsClearSum, bound_by, bound_in}
+use Rattle.nested_sums.specs.Bound.{bound_inside, bounds, none_bound}
 use Rattle.nested_sums.specs.Told.{told_with}
 
 -- accesses bind nothing, whichever they are

@@ -126,7 +126,8 @@ module _ (words : List (List ℕ)) (r : Request) (asks : AsksFor words r) (task_
 
 -- ---- another line than that of a statement
 module _ (over : Values) (words : List (List ℕ)) (files files' : FolderState) (out out' : SinkState)
-    (no_line : (t : Task) (o : Over) (expr : List ℕ) (rest : List (List ℕ)) → command_line_of words ≡ Some (StatementLine t o expr rest) → ⊥)
+    (no_line : (t : Task) (o : Over) (expr : List ℕ) (rest : List (List ℕ))
+    → command_line_of words ≡ Some (StatementLine t o expr rest) → ⊥)
     (some : command_line_of words ≡ None → ⊥) (no_out : Rose out.faults out'.faults → ⊥) where
   no_statement : {t : Task} {o : Over} {expr : List ℕ} {rest : List (List ℕ)}
       → command_line_of words ≡ Some (StatementLine t o expr rest) → ⊥

@@ -231,7 +231,8 @@ old_reads_sums s h =
     subst (λ k. AreRead k (map moved_sum s.sums) (with_old s).expr) number
     (read_wider (length s.accesses + 1) (map moved_sum s.sums) (moved s.expr) (with_old s).expr
     (read_moved (length s.accesses) s.sums s.expr h)
-    (λ j there. reads_binary j op.Add (AccessOf 0) (moved s.expr) ∙ or_second (reads_leaf j (AccessOf 0)) (reads_leaf j (moved s.expr)) there))
+    (λ j there. reads_binary j op.Add (AccessOf 0) (moved s.expr)
+    ∙ or_second (reads_leaf j (AccessOf 0)) (reads_leaf j (moved s.expr)) there))
 
 pub expanded_reads_sums : (s : Statement) → ReadsItsSums s → ReadsItsSums (expanded s)
 expanded_reads_sums s h = by s.accumulate refl

@@ -88,8 +88,8 @@ pub record AreNamed (text : List ℕ) (s : Statement) : Type 0 where
   pub stands_for : s ≡ expanded written
   pub fine : AreFine s
 
--- the command line asks this task for a statement, the names of whose accesses are in order as it is written; this is the one that it stands
--- for, in which each minus has a meaning
+-- the command line asks this task for a statement, the names of whose accesses are in order as it is written; this is the one that it
+-- stands for, in which each minus has a meaning
 pub record Names (words : List (List ℕ)) (task : Task) (over : Over) (s : Statement) (rest : List (List ℕ)) : Type 0 where
   pub text : List ℕ
   pub line : AsksOf words task over text rest

@@ -34,8 +34,8 @@ exec_paths r = paths_of r.statement r.files
 abbrev pub AsksExecOf : List (List ℕ) → List ℕ → ℕ → List ℕ → List (List ℕ) → Type 0
 AsksExecOf words path budget text rest = command_line_of words ≡ Some (Exec path budget text rest)
 
--- and for a statement that the text stands for. A minus is never refused: what the statement says counts for its operands, ranges and formats
--- alone
+-- and for a statement that the text stands for. A minus is never refused: what the statement says counts for its operands, ranges and
+-- formats alone
 pub record ExecNames (words : List (List ℕ)) (path : List ℕ) (budget : ℕ) (s : Statement) (rest : List (List ℕ)) : Type 0 where
   pub text : List ℕ
   pub line : AsksExecOf words path budget text rest
@@ -62,7 +62,8 @@ exec_request e = record {
 -- memory
 abbrev pub IsExecRefused : List (List ℕ) → Fault → Type 0
 IsExecRefused words (Notation fault) =
-    (path : List ℕ) × (budget : ℕ) × (text : List ℕ) × (rest : List (List ℕ)) × AsksExecOf words path budget text rest × IsFaultOf text fault
+    (path : List ℕ) × (budget : ℕ) × (text : List ℕ) × (rest : List (List ℕ)) × AsksExecOf words path budget text rest
+    × IsFaultOf text fault
 IsExecRefused words (Named s (Name fault)) =
     (path : List ℕ) × (budget : ℕ) × (text : List ℕ) × (rest : List (List ℕ)) × AsksExecOf words path budget text rest
     × IsNameRefused text s fault

@@ -56,7 +56,8 @@ pub record HasKernel (path : List ℕ) (old between : FolderState) (kernel : Ker
   pub only_reads : OnlyReads old between
   pub reads : ReadsKernel path old between kernel
 
--- the kernel's file was read, and then, over the kernel's semiring, those of the operands: these are their entries, and what their modes give
+-- the kernel's file was read, and then, over the kernel's semiring, those of the operands: these are their entries, and what their modes
+-- give
 pub record HasInput (words : List (List ℕ)) (old new : FolderState) (r : ExecRequest) (kernel : Kernel) (entries : List Entries)
     (bounds : List (Vec Bound Global)) : Type 0 where
   pub asks : AsksExec words r
@@ -77,7 +78,8 @@ pub record IsExecution (words : List (List ℕ)) (old new : FolderState) : Type 
   pub result : Entries
   pub tensor : Storage
   pub turns : Turns
-  pub runs : IsGivenRun (kernel_values kernel).arithmetic request.statement request.formats kernel request.given entries bounds request.budget
+  pub runs : IsGivenRun (kernel_values kernel).arithmetic request.statement request.formats kernel request.given entries bounds
+      request.budget
       shape result tensor turns
 
 -- the text of the tensor with these entries was written; `between` is the folder as it was when the writing began

@@ -73,6 +73,7 @@ pub record IsWhole (over : Values) (words : List (List ℕ)) (holds : List ℕ �
       → IsOrder (stored_statement request.statement plan) (stored_formats request.formats plan) order
       → calls_for_workspace (looped over.arithmetic (stored_statement request.statement plan) order) (stored_formats request.formats plan)
       order ≡ true
-      → HasLargeKey (looped over.arithmetic (stored_statement request.statement plan) order) (stored_formats request.formats plan) order ranges
+      → HasLargeKey (looped over.arithmetic (stored_statement request.statement plan) order) (stored_formats request.formats plan)
+      order ranges
       → WorkspacesFit over.arithmetic (stored_statement request.statement plan) (stored_formats request.formats plan) order ranges
       (stored_entries (map (λ operand. operand.entries) operands) plan)

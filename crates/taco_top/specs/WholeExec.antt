@@ -23,8 +23,8 @@ use Rattle.taco_top.specs.Written.{means}
 abbrev pub entries_in : List Operand → List Entries
 entries_in operands = map (λ operand. operand.entries) operands
 
--- over the semiring of this kernel every operand's file stands for entries; the ranges agree; no level of an operand has more positions than
--- may be; and on the store of the packed operands the kernel's run has no other fault than want of memory
+-- over the semiring of this kernel every operand's file stands for entries; the ranges agree; no level of an operand has more positions
+-- than may be; and on the store of the packed operands the kernel's run has no other fault than want of memory
 pub record RunsWhole (r : ExecRequest) (holds : List ℕ → Told) (kernel : Kernel) : Type 0 where
   pub operands : List Operand
   pub ranges : List ℕ

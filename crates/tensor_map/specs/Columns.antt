@@ -29,4 +29,5 @@ pub record KeepsBelow (count : ℕ) (old new : List ℕ) : Type 0 where
 pub record HaveAt {X : Type 0} (numbers : X → List ℕ) (columns : List X) (place : ℕ) (coords : List ℕ) (long : ℕ) : Type 0 where
   pub within : place < long
   pub are_long : AreLong numbers columns long
-  pub at : (mode : ℕ) (d : X) → mode < length columns → slice_index (numbers (slice_index_or columns mode d)) place ≡ slice_index coords mode
+  pub at : (mode : ℕ) (d : X) → mode < length columns → slice_index (numbers (slice_index_or columns mode d)) place ≡ slice_index
+      coords mode

@@ -33,7 +33,8 @@ pub(crate) trait Rows {
     /// Gives an entry another value.
     fn put_value_at(&mut self, i: usize, value: u64)
         requires { i < length (entries self.old) }
-        ensures { (d : Entry) → entries self.new ≡ slice_set (entries self.old) i (with_value (slice_index_or (entries self.old) i d) value) };
+        ensures { (d : Entry) → entries self.new ≡ slice_set (entries self.old) i
+            (with_value (slice_index_or (entries self.old) i d) value) };
 
     /// Whether two entries have the same coordinates.
     fn are_equal(&self, i: usize, j: usize) -> bool

@@ -20,6 +20,7 @@ AddsTerm a sink k places target t free code =
     (c : Setting) → c.arithmetic ≡ a → Laws a → ((y : ℕ) → sink.mine k y → y < free)
     → (these : ℕ → Bool) → EachAccess (λ j. these j ≡ true) t.expr
     → (ranges : List ℕ) (before : List Entry) (stored : Stored) (bound : List ℕ) (env : Env) → All (λ v. contains bound v ≡ true) target
-    → ((v : ℕ) → term_value a stored env t ≡ Some v → sink.takes k ranges before (record { coords = coords_at env.point target; value = v }))
+    → ((v : ℕ) → term_value a stored env t ≡ Some v → sink.takes k ranges before
+    (record { coords = coords_at env.point target; value = v }))
     → (s : State) → Keeps places bound env s → HasValues these places stored env s → sink.holds k c.arithmetic ranges before s
     → Adds sink k c ranges code free no_turns before (row_of (coords_at env.point target) (term_value a stored env t)) s

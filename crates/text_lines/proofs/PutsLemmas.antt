@@ -22,7 +22,8 @@ less_of_first old new a b less = record {
   written_is = less.written_is;
 }
 
-abbrev less_of_second : (old mid new : Option (List ℕ)) (a b : List ℕ) → mid ≡ appended old a → PutsLess mid new b → PutsLess old new (a ++ b)
+abbrev less_of_second : (old mid new : Option (List ℕ)) (a b : List ℕ) → mid ≡ appended old a → PutsLess mid new b
+    → PutsLess old new (a ++ b)
 less_of_second old mid new a b first less = record {
   front = a ++ less.front;
   rest = less.rest;

@@ -299,7 +299,8 @@ module _ (a : Arithmetic) (laws : Laws a) (s : Statement) (formats : List (List 
           record {
             coordinates = there.coordinates;
             positions = there.positions;
-            coordinates_are = b.0.arrays (ListCoordinates n) (λ on. elim on [ inl never ↦ never | inr never ↦ never ]) ∙ there.coordinates_are;
+            coordinates_are = b.0.arrays (ListCoordinates n) (λ on. elim on [ inl never ↦ never | inr never ↦ never ])
+                ∙ there.coordinates_are;
             positions_are = b.0.arrays (ListPositions n) (λ on. elim on [ inl never ↦ never | inr never ↦ never ]) ∙ there.positions_are;
           }
 
@@ -374,5 +375,6 @@ module _ (a : Arithmetic) (laws : Laws a) (s : Statement) (formats : List (List 
 pub touched_kernels_are_right : TouchedKernelsAreRight
 touched_kernels_are_right a laws s formats f c in_order loops row_code words k base places at_base top begin code summed drain tops begins
     first past adds at sums_up g low apart drains kernel sink_is list few body store is arrays given =
-    ends a laws s formats f c in_order loops row_code words store is k base places at_base top begin code summed drain tops begins first past
+    ends a laws s formats f c in_order loops row_code words store is k base places at_base top begin code summed drain tops begins
+    first past
     adds at sums_up g low apart drains kernel sink_is list few arrays given body

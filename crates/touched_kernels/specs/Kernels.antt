@@ -76,8 +76,8 @@ pub record IsAtTop (a : Arithmetic) (k : TouchedSink) (s : Statement) (formats :
   pub kept : (b : Arr) → IsOfOperands b → touched_sink.kept k b
   pub held : touched_sink.holds k a (ranges_on k store) [] st
 
--- From the top the code adds the rows that the loops add to these keys, whatever the store, if the workspace takes them in turn. It may fill
--- scratch lists from one number to the one before another.
+-- From the top the code adds the rows that the loops add to these keys, whatever the store, if the workspace takes them in turn. It may
+-- fill scratch lists from one number to the one before another.
 pub record AddsFromTop (a : Arithmetic) (k : TouchedSink) (s : Statement) (formats : List (List FormatLevel)) (places : Places)
     (keys : List ℕ) (loops : LoopCode) (list past : ℕ) (code : List KStmt) : Type 0 where
   pub low : ℕ
@@ -96,8 +96,8 @@ abbrev pub RefusesLevels : TouchedSink → Store → KernelOutcome → Type 0
 RefusesLevels k store outcome = slice_index store.ranges k.variable ≤ greatest_marked_range → RefusesOnly (OnlyLevels store) outcome
 
 -- On every store a kernel of such code is right. A run that finishes makes no more turns than the loops' code and the rows tell: for each
--- point of the support two drain turns at most, as its sum is joined and as it is stored. The workspace is refused no growth where the range
--- is one of marks.
+-- point of the support two drain turns at most, as its sum is joined and as it is stored. The workspace is refused no growth where the
+-- range is one of marks.
 abbrev pub TouchedKernelsAreRight : Type 0
 TouchedKernelsAreRight = (a : Arithmetic) → Laws a → (s : Statement) (formats : List (List FormatLevel)) → IsForTouched s formats
     → (c : Concrete) (in_order : IsInOrder s formats c) → (loops : LoopCode) → AddsRows s formats c loops

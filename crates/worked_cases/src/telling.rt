@@ -1,7 +1,8 @@
 //! What texts of the program tell, with their kernels and their numbers of turns apart.
 use case_files::Answer;
 
-/// Tells a text, with `kernel {..}` or `kernel minplus {..}` in place of a kernel, and `turns ..` in place of numbers of turns that aren't shown.
+/// Tells a text, with `kernel {..}` or `kernel minplus {..}` in place of a kernel, and `turns ..` in place of numbers of turns that aren't
+/// shown.
 pub(crate) fn tell_text(answer: &mut Answer, text: &str, shows_turns: bool) {
     let mut is_inside = false;
     for line in text.split_inclusive('\n') {

@@ -11,7 +11,8 @@ loop-n-preserved c =
     record {
       taken = refl;
       gathers =
-          gather_more c.args.live.now c.args.before.now c.args.e.now c.args.f.now c.loop-n.n c.index-before-before.result s.x s.value o.first
+          gather_more c.args.live.now c.args.before.now c.args.e.now c.args.f.now c.loop-n.n c.index-before-before.result s.x
+          s.value o.first
           o.second c.in_ok-put_in-in-Set.field-0 c.in_ok-put_in-in-Set-2.field-0 c.loop-n-test.true c.index-before-before.is s.is dead
           c.in_ok-put_in-in-Set.ensures c.in_ok-put_in-in-Set-2.ensures c.loop-n.invariant.gathers;
     }

@@ -11,7 +11,8 @@ returns c =
     record {
       within = o.ensures.within;
       gathers =
-          subst (λ live. Gathers live (last_of o.operands.taken c.args.before.now) c.args.e.now c.args.f.now o.operands.first o.operands.second)
+          subst (λ live. Gathers live (last_of o.operands.taken c.args.before.now) c.args.e.now c.args.f.now o.operands.first
+          o.operands.second)
           c.as_slice.ensures o.ensures.gathers;
       covers = covers_then last.new.live first.new.live c.args.live.now last.ensures.covers first.ensures.covers;
       first = reads_more last.new.live first.new.live o.operands.first last.ensures.covers first.ensures.reads;

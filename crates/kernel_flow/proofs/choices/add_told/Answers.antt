@@ -6,7 +6,8 @@ use Rattle.kernel_flow.proofs.choices.add_told.Goals as goal
 
 pub returns-in-Var : goal.returns-in-Var
 returns-in-Var c =
-    flag_told c.add_fact.result c.args.facts.now c.add_fact.new.facts c.args.fact.now _ c.args.test.now c.in-Var.x c.args.n c.add_fact.ensures
+    flag_told c.add_fact.result c.args.facts.now c.add_fact.new.facts c.args.fact.now _ c.args.test.now c.in-Var.x c.args.n
+    c.add_fact.ensures
     c.in-Var.is (c.same_expr.ensures c.if-not-same_expr.false) refl refl
 
 pub returns-in-Bin : goal.returns-in-Bin

@@ -22,7 +22,8 @@ returns c =
     let after = (state_of c.hand_over.new.machine).arrays in
     let values = c.taken_array-values.result.items in
     let words = c.taken_array-values.ensures.words in
-    let told : Option Storage → Type 0 = λ o. MatchOption o (IsWhole n new values → ⊥) (λ t. IsWhole n new values × IsMadeOf new values t) in
+    let told : Option Storage → Type 0 = λ o. MatchOption o (IsWhole n new values → ⊥)
+    (λ t. IsWhole n new values × IsMadeOf new values t) in
     both_ok c.finish_checked.result told told _ c.finish_checked.ensures c.finish_checked.ensures
     (λ o whole also store started is. match_both o _ _ _ _
     (λ none leaves. none (may_whole n store before after old new values leaves.left is c.hand_over.ensures words leaves.widths))

@@ -11,5 +11,6 @@ returns-clause-run g c = record {
 
 pub returns-in-Err-clause-refused : goal.returns-in-Err-clause-refused
 returns-in-Err-clause-refused g c =
-    c.fault_of.ensures g.S.Semiring.arithmetic c.args.kernel.now (store_of c.args.ranges.now c.args.operands.now c.args.format) c.args.budget
+    c.fault_of.ensures g.S.Semiring.arithmetic c.args.kernel.now (store_of c.args.ranges.now c.args.operands.now c.args.format)
+    c.args.budget
     c.in-Err.ensures

@@ -157,8 +157,10 @@ returns-in-Ok-clause-run g c =
     let fits = c.requires.runnable.ranges_fit ranges told in
     run_given_is a s formats operands are ranges fits c.deref-3.result.now c.deref-3.ensures.value c.copied-format.result
     (subst (λ f. f ≡ slice_index_or formats 0 f) (sym c.copied-format.ensures.value) c.index-formats-0.is)
-    c.deref.result.now c.deref.ensures.value c.as_mut_slice-entries.result.now c.as_mut_slice-entries.ensures.value c.in_ok-tensors.tensors.items
-    c.in_ok-tensors.ensures c.deref-2.result.now c.deref-2.ensures.value given bounds told c.args.kernel.now c.args.budget g.met.S.Semiring.laws
+    c.deref.result.now c.deref.ensures.value c.as_mut_slice-entries.result.now c.as_mut_slice-entries.ensures.value
+    c.in_ok-tensors.tensors.items
+    c.in_ok-tensors.ensures c.deref-2.result.now c.deref-2.ensures.value given bounds told c.args.kernel.now c.args.budget
+    g.met.S.Semiring.laws
     c.in-Ok.computed.tensor c.in-Ok.computed.turns c.in-Ok.computed.entries c.in-Ok.computed.shape c.in-Ok.ensures.run
 
 pub returns-in-Ok-clause-entries : goal.returns-in-Ok-clause-entries
@@ -180,6 +182,7 @@ returns-clause-refused g c =
     let fits = c.requires.runnable.ranges_fit ranges told in
     refused_given a s formats operands are ranges fits c.deref-3.result.now c.deref-3.ensures.value c.copied-format.result
     (subst (λ f. f ≡ slice_index_or formats 0 f) (sym c.copied-format.ensures.value) c.index-formats-0.is)
-    c.deref.result.now c.deref.ensures.value c.as_mut_slice-entries.result.now c.as_mut_slice-entries.ensures.value c.in_ok-tensors.tensors.items
+    c.deref.result.now c.deref.ensures.value c.as_mut_slice-entries.result.now c.as_mut_slice-entries.ensures.value
+    c.in_ok-tensors.tensors.items
     c.in_ok-tensors.ensures c.deref-2.result.now c.deref-2.ensures.value given bounds told c.args.kernel.now c.args.budget
     c.in-Err.fault c.in-Err.ensures.refused

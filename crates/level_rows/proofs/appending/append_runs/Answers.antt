@@ -77,7 +77,8 @@ append_run-at-requires-clause-room g c =
     run_room g.L.LevelKind.meaning g.met.L.LevelKind.laws c.args.parents
     (rows_at (g.R.SortedRows.keys c.args._rows.now) c.args.positions.now) c.args.level.now c.requires.rows
     c.requires.all c.loop-done.done (g.L.Append.spare c.turn-at.new.level) c.turn-at.result c.turn-at.new.level turned
-    (take (c.number_run-end.result - c.loop-done.done) (drop c.loop-done.done c.args.column.now)) run (let m = c.requires.most in let r = c.requires.room in omega (arith, m, r))
+    (take (c.number_run-end.result - c.loop-done.done) (drop c.loop-done.done c.args.column.now)) run
+    (let m = c.requires.most in let r = c.requires.room in omega (arith, m, r))
 
 pub loop-done-preserved : goal.loop-done-preserved
 loop-done-preserved g c =
@@ -152,7 +153,8 @@ returns-clause-ok g c =
     subst (λ n. Filling g.L.LevelKind.meaning c.args.parents n (g.L.Append.spare c.loop-done.level) c.loop-done.at
     (rows_at (g.R.SortedRows.keys c.args._rows.now) c.args.positions.now) c.loop-done.positions c.args.level.now
     c.loop-done.level) all c.loop-done.invariant in
-    appends g.L.LevelKind.meaning g.met.L.LevelKind.laws c.args.parents (rows_at (g.R.SortedRows.keys c.args._rows.now) c.args.positions.now)
+    appends g.L.LevelKind.meaning g.met.L.LevelKind.laws c.args.parents
+    (rows_at (g.R.SortedRows.keys c.args._rows.now) c.args.positions.now)
     c.args.level.now c.requires.rows (g.L.Append.spare c.loop-done.level) c.loop-done.at c.loop-done.positions c.loop-done.level full
     (nat_lt 0 c.loop-done.done) c.close.new.level c.finish.new.self (ap (nat_lt 0) all) c.close.ensures.log c.close.ensures.keeps
     c.finish.ensures

@@ -19,7 +19,8 @@ pub overflow_cast-parents : goal.overflow_cast-parents
 overflow_cast-parents c =
     let l = c.loop-number in
     let long = c.requires.same in
-    let few = few_here c.args.format.now c.args.sizes.now l.number l.parents none c.loop-number-test.true (omega (arith, long)) l.invariant.1 in
+    let few = few_here c.args.format.now c.args.sizes.now l.number l.parents none c.loop-number-test.true (omega (arith, long))
+    l.invariant.1 in
     let within = few.0 in
     let is = c.positions_at_start-positions.ensures in
     omega (arith, within, is, positions_are_small)

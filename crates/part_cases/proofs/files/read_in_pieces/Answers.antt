@@ -9,7 +9,8 @@ use Rattle.part_cases.proofs.files.read_in_pieces.Goals as goal
 may_be_written : (signed : Bool) (reader : TnsReader) (read : Result Entries FileFault)
     → MatchResult read (IsRead signed reader) (Refuses signed reader)
     → IfOk read (λ entries. (others : List Entry) → SameListed entries.list others → AreInRange others)
-may_be_written signed reader (Ok entries) is = λ others same. read_in_range signed reader.order reader.text entries.list others is.list_is same
+may_be_written signed reader (Ok entries) is = λ others same. read_in_range signed reader.order reader.text entries.list others
+    is.list_is same
 may_be_written signed reader (Err fault) is = tt
 
 pub returns : goal.returns

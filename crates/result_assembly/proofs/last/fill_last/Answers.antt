@@ -49,8 +49,10 @@ returns c =
     let prepare = c.in_ok-prepare.prepare in
     let fill = c.in_ok-fill.fill in
     filled_of (meaning.kind c.args.level.now) c.requires.counted at site c.args.parents
-    (begins_test site.base site.workspace site.level) c.in_ok-coord.coord c.args.zero c.in_ok-total.total c.in_ok-code.code prepare insert fill c.append-2.new.self c.requires.parents
-    c.rows_site-rows.ensures (ap (λ r. begins_test site.base site.workspace r.level) c.rows_site-rows.ensures) c.in_ok-coord.ensures c.in_ok-total.ensures c.in_ok-code.ensures
+    (begins_test site.base site.workspace site.level) c.in_ok-coord.coord c.args.zero c.in_ok-total.total c.in_ok-code.code prepare
+    insert fill c.append-2.new.self c.requires.parents
+    c.rows_site-rows.ensures (ap (λ r. begins_test site.base site.workspace r.level) c.rows_site-rows.ensures) c.in_ok-coord.ensures
+    c.in_ok-total.ensures c.in_ok-code.ensures
     c.in_ok-prepare.ensures c.in_ok-insert.ensures
     c.in_ok-fill.ensures
     (c.in_ok-append-2.ensures.ok ∙ ap (λ k. k ++ fill)

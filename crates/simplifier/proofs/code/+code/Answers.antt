@@ -14,15 +14,18 @@ pub add_loop-returns-clause-same : goal.add_loop-returns-clause-same
 add_loop-returns-clause-same g t c =
     let new = c.in_ok-body in
     let old = While c.args.kind c.args.test c.args.body.now in
-    added g.S.Semiring.arithmetic c.push.result c.push.new.self c.args.out.now (While c.args.kind c.args.test new.body) old c.push.ensures.ok
-    (same_while g.S.Semiring.arithmetic c.args.kind c.args.test c.args.test new.body c.args.body.now (same_value c.args.test) new.ensures.same)
+    added g.S.Semiring.arithmetic c.push.result c.push.new.self c.args.out.now (While c.args.kind c.args.test new.body) old
+    c.push.ensures.ok
+    (same_while g.S.Semiring.arithmetic c.args.kind c.args.test c.args.test new.body c.args.body.now (same_value c.args.test)
+    new.ensures.same)
 
 pub add_loop-returns-clause-simple : goal.add_loop-returns-clause-simple
 add_loop-returns-clause-simple g t c =
     let new = c.in_ok-body in
     let other : is_zero c.args.test ≡ false = cc in
     λ test.
-    added_simple g.S.Semiring.arithmetic c.push.result c.push.new.self c.args.out.now (While c.args.kind c.args.test new.body) c.push.ensures.ok
+    added_simple g.S.Semiring.arithmetic c.push.result c.push.new.self c.args.out.now (While c.args.kind c.args.test new.body)
+    c.push.ensures.ok
     (folded_while g.S.Semiring.arithmetic c.args.kind c.args.test new.body other test new.ensures.simple.folded)
 
 pub add_statement-returns-in-Sort-clause-simple : goal.add_statement-returns-in-Sort-clause-simple
@@ -40,8 +43,10 @@ add_statement-returns-in-Some-eq0-clause-same g t c =
     let new = c.in_ok-test-in-If in
     let out = c.args.out.now in
     let zero : number_of new.test ≡ Some 0 = cc in
-    runs_result g.S.Semiring.arithmetic c.add_code.result c.add_code.new.out (out ++ c.as_slice.result.now) (out ++ c.args.s.now ∷ []) c.add_code.ensures.same
-    (second_taken g.S.Semiring.arithmetic out s.test new.test s.first s.second c.as_slice.result.now c.args.s.now zero new.ensures.same c.as_slice.ensures s.is)
+    runs_result g.S.Semiring.arithmetic c.add_code.result c.add_code.new.out (out ++ c.as_slice.result.now)
+    (out ++ c.args.s.now ∷ []) c.add_code.ensures.same
+    (second_taken g.S.Semiring.arithmetic out s.test new.test s.first s.second c.as_slice.result.now c.args.s.now zero
+    new.ensures.same c.as_slice.ensures s.is)
 
 pub add_statement-returns-in-Some-clause-same : goal.add_statement-returns-in-Some-clause-same
 add_statement-returns-in-Some-clause-same g t c =
@@ -53,7 +58,8 @@ add_statement-returns-in-Some-clause-same g t c =
     let number : number_of new.test ≡ Some c.in-Some.field-0 = cc in
     let more : 0 < c.in-Some.field-0 = omega (arith, c.in-Some.field-0-test) in
     runs_result g.S.Semiring.arithmetic call.result call.new.out (out ++ body.result.now) (out ++ c.args.s.now ∷ []) call.ensures.same
-    (first_taken g.S.Semiring.arithmetic out s.test new.test s.first s.second body.result.now c.args.s.now c.in-Some.field-0 number more new.ensures.same
+    (first_taken g.S.Semiring.arithmetic out s.test new.test s.first s.second body.result.now c.args.s.now c.in-Some.field-0 number
+    more new.ensures.same
     body.ensures s.is)
 
 pub add_statement-returns-in-If-clause-same : goal.add_statement-returns-in-If-clause-same
@@ -64,8 +70,10 @@ add_statement-returns-in-If-clause-same g t c =
     let second = c.in_ok-second-in-None in
     let push = c.push-in-None in
     let same = same_if g.S.Semiring.arithmetic new.test s.test first.first second.second s.first s.second new.ensures.same
-    (runs_now g.S.Semiring.arithmetic _ _ _ first.ensures.same c.as_slice-in-None.ensures) (runs_now g.S.Semiring.arithmetic _ _ _ second.ensures.same c.as_slice-in-None-2.ensures) in
-    added g.S.Semiring.arithmetic push.result push.new.self c.args.out.now (If new.test first.first second.second) c.args.s.now push.ensures.ok
+    (runs_now g.S.Semiring.arithmetic _ _ _ first.ensures.same c.as_slice-in-None.ensures)
+    (runs_now g.S.Semiring.arithmetic _ _ _ second.ensures.same c.as_slice-in-None-2.ensures) in
+    added g.S.Semiring.arithmetic push.result push.new.self c.args.out.now (If new.test first.first second.second) c.args.s.now
+    push.ensures.ok
     (step_then g.S.Semiring.arithmetic _ _ _ same (step_same g.S.Semiring.arithmetic _ _ (sym s.is)))
 
 pub add_statement-returns-in-If-clause-simple : goal.add_statement-returns-in-If-clause-simple
@@ -76,7 +84,8 @@ add_statement-returns-in-If-clause-simple g t c =
     let push = c.push-in-None in
     let none : number_of new.test ≡ None = cc in
     added_simple g.S.Semiring.arithmetic push.result push.new.self c.args.out.now (If new.test first.first second.second) push.ensures.ok
-    (folded_if g.S.Semiring.arithmetic new.test first.first second.second none new.ensures.folded first.ensures.simple.folded second.ensures.simple.folded)
+    (folded_if g.S.Semiring.arithmetic new.test first.first second.second none new.ensures.folded first.ensures.simple.folded
+    second.ensures.simple.folded)
 
 pub add_statement-returns-clause-same : goal.add_statement-returns-clause-same
 add_statement-returns-clause-same g t c =
@@ -86,13 +95,16 @@ add_statement-returns-clause-same g t c =
     let body = c.as_slice-in-While in
     let same = same_while g.S.Semiring.arithmetic s.kind new.test s.test body.result.now s.body new.ensures.same
     (runs_now g.S.Semiring.arithmetic _ _ _ (runs_same g.S.Semiring.arithmetic body.result.now) body.ensures) in
-    runs_result g.S.Semiring.arithmetic c.add_loop.result c.add_loop.new.out (out ++ While s.kind new.test body.result.now ∷ []) (out ++ c.args.s.now ∷ [])
-    c.add_loop.ensures.same (pushed g.S.Semiring.arithmetic out _ _ (step_then g.S.Semiring.arithmetic _ _ _ same (step_same g.S.Semiring.arithmetic _ _ (sym s.is))))
+    runs_result g.S.Semiring.arithmetic c.add_loop.result c.add_loop.new.out (out ++ While s.kind new.test body.result.now ∷ [])
+    (out ++ c.args.s.now ∷ [])
+    c.add_loop.ensures.same (pushed g.S.Semiring.arithmetic out _ _
+    (step_then g.S.Semiring.arithmetic _ _ _ same (step_same g.S.Semiring.arithmetic _ _ (sym s.is))))
 
 pub add_code-loop-s-preserved : goal.add_code-loop-s-preserved
 add_code-loop-s-preserved g t c =
     let done = c.in_ok-add_statement.ensures in (
-      runs_so_far g.S.Semiring.arithmetic c.add_statement.new.out c.loop-s.out c.args.out.now c.args.code.now c.loop-s.s-index c.s-item.result c.loop-s-test.true
+      runs_so_far g.S.Semiring.arithmetic c.add_statement.new.out c.loop-s.out c.args.out.now c.args.code.now c.loop-s.s-index
+          c.s-item.result c.loop-s-test.true
           c.s-item.is c.loop-s.invariant.0 done.same,
       λ simple. done.simple (c.loop-s.invariant.1 simple),
     )

@@ -108,6 +108,7 @@ returns-clause-cleared t c =
     let ok = c.may_ask.ensures.0 c.if-not-may_ask.false in
     let is = c.as_slice-found.ensures ∙ c.in_ok-entries.ensures in
     let l = c.loop-entry in
-    λ _. cleared_end a.levels.now a.depth a.parents c.positions_of-count.result a.span level found (length a.values.now) left c.requires.done
+    λ _. cleared_end a.levels.now a.depth a.parents c.positions_of-count.result a.span level found (length a.values.now) left
+    c.requires.done
     c.requires.within ok is c.positions_of-count.ensures a.nothing a.values.now l.values l.entry-index c.loop-entry-test.false
     l.invariant.1.0

@@ -125,12 +125,15 @@ returns g c =
           (keys_are_target s formats ordered order c.requires.ready.is_order (length sink.levels)
           (keys_many s formats ordered order c.requires.ready.is_order
           ∙ sym (ap length c.requires.levels ∙ c.requires.ready.left.order))))).below;
-      chain = lowered_chain s formats c.requires.ready.numbered l.concrete (in_order_of s formats order loops l) l.shares l.none loops l.shape
+      chain = lowered_chain s formats c.requires.ready.numbered l.concrete (in_order_of s formats order loops l) l.shares l.none
+          loops l.shape
           (take first (left_in_order s order)) (drop first (left_in_order s order)) (sym (take-append-drop first (left_in_order s order)))
           c.requires.outer;
-      adds = subst (λ n. AddsGroups g.S.Semiring.arithmetic g.W.RowSink.sink appended_sink g.W.DrainedWorkspace.draining grouped s formats places
+      adds = subst (λ n. AddsGroups g.S.Semiring.arithmetic g.W.RowSink.sink appended_sink g.W.DrainedWorkspace.draining grouped s
+          formats places
           (left_in_order s order) 0 loops (sink.base + 4 * n + 3) 0 emitted.lists emitted.code) many
-          (subst (λ target. AddsGroups g.S.Semiring.arithmetic g.W.RowSink.sink appended_sink g.W.DrainedWorkspace.draining grouped s formats
+          (subst (λ target. AddsGroups g.S.Semiring.arithmetic g.W.RowSink.sink appended_sink g.W.DrainedWorkspace.draining grouped
+          s formats
           places target 0 loops (sink.base + 4 * c.len.result + 3) 0 emitted.lists emitted.code)
           (c.as_slice-target.ensures ∙ c.in_ok-left.ensures) c.in_ok-emitted.ensures);
     }

@@ -19,7 +19,8 @@ group_rows-requires-clause-keys g c = ap (λ n. c.args.sink.now.first + n) c.req
 pub end_levels-requires : goal.end_levels-requires
 end_levels-requires g c =
     let sink = c.args.sink.now.outer.now in
-    let few = levels_few c.args.statement.now c.args.formats.now sink c.requires.grouped.ready.numbered c.requires.grouped.ready.left c.requires.outer.levels in
+    let few = levels_few c.args.statement.now c.args.formats.now sink c.requires.grouped.ready.numbered
+    c.requires.grouped.ready.left c.requires.outer.levels in
     let base = c.requires.outer.base in
     let same = ap length c.as_slice-levels.ensures in
     record { room = record { result = omega arith; code = omega (arith, few, base, same) } }
@@ -44,7 +45,12 @@ returns-clause-compiled g c =
       some = λ dense. c.requires.grouped.some (subst (λ t. AreAllDense (format_of formats t)) (sym result) dense);
     } in
     let for_appended : IsForAppended s formats =
-    record { ordered = ordered; flat = c.requires.grouped.ready.flat; read = c.requires.grouped.ready.read; sorted = c.requires.grouped.sorted } in
+    record {
+      ordered = ordered;
+      flat = c.requires.grouped.ready.flat;
+      read = c.requires.grouped.ready.read;
+      sorted = c.requires.grouped.sorted;
+    } in
     let levels = c.as_slice-levels.ensures in
     let top = subst (λ ls. StartsAt (sink.base + 4 * length ls) c.in_ok-body.body) levels c.in_ok-body.ensures in
     let begin = subst (λ ls. BeginsFirst (letters_of ls) (length ls) sink.base (length ls) c.in_ok-begin.begin) levels

@@ -23,7 +23,8 @@ returns-clause-compiled g c =
       read = c.requires.ready.read;
       format = subst (λ t. IsFormat (format_of formats t)) result c.requires.ready.formed.0;
       some = λ dense. c.requires.some (subst (λ t. AreAllDense (format_of formats t)) (sym result) dense);
-    }) c.args.order.now c.requires.called c.requires.unordered c.requires.several pushes.loops pushes.are pushes.places pushes.at c.in_ok-body.body c.in_ok-fill.fill pushed
+    }) c.args.order.now c.requires.called c.requires.unordered c.requires.several pushes.loops pushes.are pushes.places pushes.at
+    c.in_ok-body.body c.in_ok-fill.fill pushed
     c.in_ok-body.ensures 3 pushes.adds
     (subst (λ t. FillsFromRows (format_of formats t) a.zero c.in_ok-fill.fill) result c.in_ok-fill.ensures)
     (record {

@@ -62,7 +62,8 @@ returns-in-Err-BadFile-clause-stops g c = λ words before asks has_kernel.
     c.as_slice.result.now (paths_in c.as_slice-2.result.now)
     (c.as_slice.ensures.value ∙ c.in_ok-orders.ensures)
     (ap paths_in c.as_slice-2.ensures.value ∙ c.in_ok-sources.ensures)
-    c.in-Err-BadFile.field-0 (operand.BadFile c.in-Err-BadFile.path c.in-Err-BadFile.line c.in-Err-BadFile.kind) same c.in-Err-BadFile.ensures.refused
+    c.in-Err-BadFile.field-0 (operand.BadFile c.in-Err-BadFile.path c.in-Err-BadFile.line c.in-Err-BadFile.kind) same
+    c.in-Err-BadFile.ensures.refused
 
 pub returns-clause-stops : goal.returns-clause-stops
 returns-clause-stops g c = λ words before asks has_kernel.

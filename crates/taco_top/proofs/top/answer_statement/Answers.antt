@@ -14,7 +14,8 @@ returns-in-Ring g c = λ words asks.
 pub returns-in-MinPlus : goal.returns-in-MinPlus
 returns-in-MinPlus g c = λ words asks.
     subst (λ (o : Over). Cause (values_of o) words (g.F.Folder.state c.args.files.now) (g.F.Folder.state c.answer_over-in-MinPlus.new.files)
-    (g.O.Sink.state c.args.out.now) (g.O.Sink.state c.answer_over-in-MinPlus.new.out) (end_of c.answer_over-in-MinPlus.result)) (sym c.in-MinPlus.is)
+    (g.O.Sink.state c.args.out.now) (g.O.Sink.state c.answer_over-in-MinPlus.new.out) (end_of c.answer_over-in-MinPlus.result))
+    (sym c.in-MinPlus.is)
     (c.answer_over-in-MinPlus.ensures words asks)
 
 pub returns-in-Bits : goal.returns-in-Bits

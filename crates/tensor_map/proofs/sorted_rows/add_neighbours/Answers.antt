@@ -5,7 +5,8 @@ use Rattle.tensor_map.proofs.sorted_rows.add_neighbours.Goals.{then-are_equal, e
 
 pub loop-next-preserved : goal.loop-next-preserved
 loop-next-preserved g c =
-    let within : c.loop-next.next < length (g.R.Rows.entries c.args.rows.now) = omega (arith, c.loop-next-test.true, c.count-count.ensures) in
+    let within : c.loop-next.next < length (g.R.Rows.entries c.args.rows.now) = omega
+    (arith, c.loop-next-test.true, c.count-count.ensures) in
     elim c.if-are_equal.branch [
       | then-are_equal w ↦ rw (w.rows-is, w.last-is)
           (adds_same g.S.Semiring.arithmetic _ _ _ _ _ c.loop-next.invariant within (λ d. sym (c.are_equal.ensures d)

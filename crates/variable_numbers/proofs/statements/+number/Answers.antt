@@ -9,13 +9,15 @@ use Rattle.variable_numbers.proofs.statements.+number.Goals as goal
 pub number_statement-returns-in_ok-e-in-Set : goal.number_statement-returns-in_ok-e-in-Set
 number_statement-returns-in_ok-e-in-Set t c =
     let s = c.in-Set in
-    numbered_set c.args.numbers.now.table c.args.numbers.now.names c.args.numbers.now.each_once c.args.s.now s.x c.in_ok-x-in-Set.x s.e c.in_ok-e-in-Set.e s.is
+    numbered_set c.args.numbers.now.table c.args.numbers.now.names c.args.numbers.now.each_once c.args.s.now s.x c.in_ok-x-in-Set.x
+    s.e c.in_ok-e-in-Set.e s.is
     c.in_ok-x-in-Set.ensures c.in_ok-e-in-Set.ensures
 
 pub number_statement-returns-in_ok-f-in-Combine : goal.number_statement-returns-in_ok-f-in-Combine
 number_statement-returns-in_ok-f-in-Combine t c =
     let s = c.in-Combine in
-    numbered_combine c.args.numbers.now.table c.args.numbers.now.names c.args.numbers.now.each_once c.args.s.now s.x c.in_ok-x-in-Combine.x s.op s.e s.f
+    numbered_combine c.args.numbers.now.table c.args.numbers.now.names c.args.numbers.now.each_once c.args.s.now s.x
+    c.in_ok-x-in-Combine.x s.op s.e s.f
     c.in_ok-e-in-Combine.e c.in_ok-f-in-Combine.f s.is c.in_ok-x-in-Combine.ensures c.in_ok-e-in-Combine.ensures
     c.in_ok-f-in-Combine.ensures
 
@@ -89,5 +91,6 @@ number_statement-returns-in_ok-body-in-While t c =
 
 pub number_code-loop-s-preserved : goal.number_code-loop-s-preserved
 number_code-loop-s-preserved t c =
-    code_more (Renamed c.args.numbers.now.names) c.args.code.now c.loop-s.numbered c.push.new.self c.loop-s.s-index c.s-item.result c.in_ok-s.s
+    code_more (Renamed c.args.numbers.now.names) c.args.code.now c.loop-s.numbered c.push.new.self c.loop-s.s-index c.s-item.result
+    c.in_ok-s.s
     c.loop-s-test.true c.s-item.is c.loop-s.invariant c.in_ok-s.ensures c.in_ok-push.ensures.ok

@@ -14,5 +14,6 @@ pub returns-in-StuckInside-clause-is : goal.returns-in-StuckInside-clause-is
 returns-in-StuckInside-clause-is c =
     let m = c.args.self.now in
     ap (Stuck (state_of m).turns)
-    (counted c.args.count m.stuck_inside c.saturating_add-self-in-StuckInside.result (omega arith) c.saturating_add-self-in-StuckInside.ensures)
+    (counted c.args.count m.stuck_inside c.saturating_add-self-in-StuckInside.result (omega arith)
+    c.saturating_add-self-in-StuckInside.ensures)
     ∙ ap (λ e. behind c.args.count (outcome_at e m)) (sym c.in-StuckInside.is)

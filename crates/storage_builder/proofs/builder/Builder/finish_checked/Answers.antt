@@ -51,7 +51,8 @@ from_levels-requires c =
     levels c.deref_mut.result.now c.deref-4.ensures.value (c.deref_mut.ensures.value ∙ c.in_ok-copies.ensures.values)
     c.in_ok-have_paths.ensures in
     let ok = c.levels.ensures.format in
-    subst (λ vs. IsStorage (storage_of b.format c.from_vec-levels.result vs)) (sym (c.from_vec-values.ensures ∙ c.in_ok-values.ensures.values))
+    subst (λ vs. IsStorage (storage_of b.format c.from_vec-levels.result vs))
+    (sym (c.from_vec-values.ensures ∙ c.in_ok-values.ensures.values))
     (subst (λ ls. IsStorage (storage_of b.format ls values)) (sym c.from_vec-levels.ensures)
     (made_storage n c.args.self b.format b.sizes.items b.parts.items values is ok have levels made
     (paths.0 c.if-not-branch.false).0))

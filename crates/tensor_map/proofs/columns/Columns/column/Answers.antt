@@ -15,7 +15,8 @@ slice_bounds-result-end c =
     subst (λ (column : Vec ℕ Global). length c.self.inside.values.items ≤ length column.items) (sym c.index-columns-mode.is)
     (c.self.invariant.1 c.args.mode c.index-columns-mode.result (omega (arith, c.requires, all, order))) in
     let many : c.len.result ≡ length c.self.inside.values.items = omega (arith, c.len.ensures, c.self.inside.values.ok.0) in
-    let slice : length c.as_slice-column.result.now ≡ length c.index-columns-mode.result.items = ap length c.as_slice-column.ensures.value in
+    let slice : length c.as_slice-column.result.now ≡ length c.index-columns-mode.result.items = ap length
+    c.as_slice-column.ensures.value in
     sym (length-take-le c.len.result c.as_slice-column.result.now (omega (arith, long, many, slice)))
 
 pub returns : goal.returns

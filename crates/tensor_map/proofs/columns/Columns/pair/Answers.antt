@@ -18,6 +18,7 @@ returns c d =
     sym (ap (λ (row : Entries). length (get_or row.list c.args.i d).coords) c.self.view_is)
     ∙ row_long _ _ c.self.inside.values.items c.args.i d entry_in ∙ all ∙ order ∙ c.requires.two in
     c.new.ensures ∙ (λ j. record {
-      coords = ((λ k. c.narrow-row.ensures d k ∷ c.narrow-column.ensures d k ∷ []) ∙ two_is (get_or c.args.self.now.list c.args.i d).coords two) j;
+      coords = ((λ k. c.narrow-row.ensures d k ∷ c.narrow-column.ensures d k ∷ [])
+          ∙ two_is (get_or c.args.self.now.list c.args.i d).coords two) j;
       value = c.value.ensures d j;
     })
