@@ -16,7 +16,7 @@ use Rattle.tensor_storage.specs.Levels.{meaning}
 use Rattle.tensor_storage.specs.Storages.{in_level_order}
 use Rattle.level_appends.specs.Appended.{IsOfCursor}
 use Rattle.level_appends.proofs.Keeping.{level_there}
-use Rattle.result_targets.specs.Scratch.{is_scratch}
+use Rattle.result_targets.specs.Scratch.{is_of_some_list}
 use Rattle.result_targets.specs.Sinks.{SinkLaws}
 use Rattle.appended_results.specs.Heads.{letter_at, key_in}
 use Rattle.appended_results.specs.Places.{positions_above, rows_above}
@@ -35,7 +35,7 @@ holds_there letters sizes heads base e s t vars arrays h = record {
       (rows_above letters sizes (key_in heads) (length heads) e) s t vars arrays (h.appended sparse);
 }
 
-not_scratch : (k : ℕ) (a : Arr) → IsOf 0 k a → is_scratch a ≡ false
+not_scratch : (k : ℕ) (a : Arr) → IsOf 0 k a → is_of_some_list a ≡ false
 not_scratch k Range h = absurd h
 not_scratch k (Values n) h = absurd h
 not_scratch k (Dimension n j) h = refl

@@ -9,7 +9,7 @@ use Rattle.kernel_code.specs.Meaning.{State}
 use Rattle.level_core.specs.Fragments.{IsOf}
 use Rattle.tensor_map.specs.Entries.{Entry}
 use Rattle.tensor_storage.specs.Storages.{in_level_order}
-use Rattle.result_targets.specs.Scratch.{is_scratch}
+use Rattle.result_targets.specs.Scratch.{is_of_some_list}
 use Rattle.result_targets.specs.Sinks.{Sink}
 use Rattle.term_code.specs.WorkspaceSinks.{IsOfWorkspace}
 use Rattle.appended_results.specs.Levels.{IsMine, IsKept, key_at}
@@ -34,7 +34,7 @@ not_workspace level w (Sums n) is of = is
 not_workspace level w (ListCoordinates n) is of = is
 not_workspace level w (ListPositions n) is of = is
 
-not_scratch : (level : ℕ) (b : Arr) → IsOf 0 level b → is_scratch b ≡ false
+not_scratch : (level : ℕ) (b : Arr) → IsOf 0 level b → is_of_some_list b ≡ false
 not_scratch level Range is = absurd is
 not_scratch level (Values n) is = absurd is
 not_scratch level (Dimension n j) is = refl

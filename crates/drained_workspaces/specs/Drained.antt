@@ -14,7 +14,7 @@ use Rattle.kernel_code.specs.Meaning.{Setting, State}
 use Rattle.level_core.specs.Fragments.{RefusedWithin, turns_of}
 use Rattle.tensor_map.specs.Entries.{Entry}
 use Rattle.workspaces.specs.Workspaces.{AreSums}
-use Rattle.result_targets.specs.Scratch.{is_scratch, IsThere}
+use Rattle.result_targets.specs.Scratch.{is_of_some_list, IsThere}
 use Rattle.result_targets.specs.Sinks.{Sink, VarsAre, TakesAll}
 use Rattle.drained_workspaces.specs.Draining.{Draining, AreWords}
 
@@ -27,8 +27,8 @@ prefixed coords rows = map (prefixed_row coords) rows
 
 -- the second state has the arrays of the first, but those of a workspace, and that scratch lists which are there may have other rows
 pub record SameBeside {W : Type 0} (inner : Sink W) (w : W) (s t : State) : Type 0 where
-  pub same : (b : Arr) → is_scratch b ≡ false → inner.kept w b → t.arrays b ≡ s.arrays b
-  pub there : (b : Arr) → is_scratch b ≡ true → IsThere (s.arrays b) → IsThere (t.arrays b)
+  pub same : (b : Arr) → is_of_some_list b ≡ false → inner.kept w b → t.arrays b ≡ s.arrays b
+  pub there : (b : Arr) → is_of_some_list b ≡ true → IsThere (s.arrays b) → IsThere (t.arrays b)
 
 -- what a sink holds stays then, while its variables do
 abbrev pub StaysBeside : {K W : Type 0} → Sink K → K → Sink W → W → Type 0

@@ -28,7 +28,8 @@ use Rattle.lowering.specs.Right.{one_if}
 use Rattle.lowering.proofs.RightLoops.{same_nests}
 use Rattle.summed_groups.specs.Groups.{with_front, with_fronts}
 use Rattle.head_pairs.specs.Heads.{FrontsAreCounted, GroupsAreFew, has_front, is_at_head, pairs_of_at}
-use Rattle.head_pairs.proofs.Sums.{count_same, count_sums, sum_mapped}
+use Rattle.lowering.proofs.Counts.{count_same}
+use Rattle.head_pairs.proofs.Sums.{count_sums, sum_mapped}
 
 -- without workspaces there is none
 mutual

@@ -10,7 +10,8 @@ use Rattle.concrete_notation.specs.Nests.{loops_of, nest_of}
 use Rattle.concrete_notation.proofs.Around.{loops_distinct, loops_contain}
 use Rattle.lowering.specs.Right.{one_if, pairs_of}
 use Rattle.head_pairs.specs.Heads.{HeadPairsAreFewer, HeadPairsInAnyOrder, is_at_head, pairs_of_at}
-use Rattle.head_pairs.proofs.Sums.{count_over_more, count_over_order}
+use Rattle.lowering.proofs.Counts.{count_over_order}
+use Rattle.head_pairs.proofs.Sums.{count_over_more}
 
 pub head_pairs_in_any_order : HeadPairsInAnyOrder
 head_pairs_in_any_order s numbered order other ordered ordered' vars coords inputs =

@@ -35,7 +35,8 @@ begins_not (letter ∷ letters) (size ∷ sizes) parents number level count few 
 begins_not (letter ∷ letters) (size ∷ sizes) parents number level count few (inr there) =
     begins_not letters sizes (parents_below letter size parents) (suc number) level count few.1 there.1
 
-same_ranges : (r : Result (List ℕ) RangeFault) (xs ys : List ℕ) → r ≡ Ok xs → r ≡ Ok ys → xs ≡ ys
+-- one answer has one list of ranges
+pub same_ranges : (r : Result (List ℕ) RangeFault) (xs ys : List ℕ) → r ≡ Ok xs → r ≡ Ok ys → xs ≡ ys
 same_ranges (Ok zs) xs ys x y =
     let first : zs ≡ xs = cc in
     let second : zs ≡ ys = cc in sym first ∙ second

@@ -19,7 +19,7 @@ use Rattle.iteration_graph.specs.Edges.{AreFormed, neighbours, by_level, access_
 use Rattle.iteration_graph.specs.Graphs.{IsLoopOrder, is_among, leads, has_edge}
 use Rattle.iteration_graph.proofs.OrderLaws.{each_forward}
 use Rattle.lists.specs.Each.{Each}
-use Rattle.expr_terms.specs.Terms.{terms, terms_in, contains, is_at_access, stands_in, own_variables, is_own}
+use Rattle.expr_terms.specs.Terms.{terms, terms_in, contains, is_at_access, stands_in, own_variables, is_own, stands_before}
 use Rattle.expr_terms.proofs.TermLaws.{each_negated, each_of_sides}
 use Rattle.expr_terms.specs.declared.term.Term.{Term}
 use Rattle.concrete_notation.specs.declared.concrete.Concrete.{Concrete}
@@ -33,7 +33,7 @@ use Rattle.lowering.specs.Lowered.{IsInOrder}
 use Rattle.lowering.specs.Seeking.{has_access, reached}
 use Rattle.lowering.specs.Shapes.{Allows, AreGood, MayLoop, Fits, AllFit, IsLowered, variables_at}
 use Rattle.lowering.specs.Starts.{StartsInPlace}
-use Rattle.lowering.specs.Sums.{AreInner, HasSums, SuitsFormats, are_bound, first_sum, reads, stands_before, sum_at, vars_at, vars_of}
+use Rattle.lowering.specs.Sums.{AreInner, HasSums, SuitsFormats, are_bound, first_sum, reads, sum_at, vars_at, vars_of}
 use Rattle.lowering.specs.Wrapped.{wrapped}
 use Rattle.lowering.proofs.Accesses.{each_access, or_left, or_right}
 use Rattle.lowering.proofs.Reached.{reached_bound, reached_stops, reached_within}

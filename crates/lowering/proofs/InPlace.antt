@@ -8,7 +8,7 @@ use denote.Hole.Carrier.{hidden}
 use Rattle.format_spec.specs.declared.format.FormatLevel.{FormatLevel}
 use Rattle.index_notation.specs.declared.syntax.Statement.{Statement}
 use Rattle.lists.specs.Each.{Each}
-use Rattle.expr_terms.specs.Terms.{contains, plain_term}
+use Rattle.expr_terms.specs.Terms.{contains, plain_term, stands_before}
 use Rattle.concrete_notation.specs.declared.concrete.Concrete.{Concrete, Add as AddOf}
 use Rattle.concrete_notation.specs.declared.concrete.Concrete.TheBlock.{hidden-the_row-Concrete-0}
 use Rattle.loop_code.specs.declared.loops.LoopCode.{LoopCode, Loop, Both, Add, Sum, Both', Loop', Sum', Row_of-LoopCode, end_of-LoopCode}
@@ -20,7 +20,7 @@ use Rattle.lowering.specs.Lowered.{concrete_in, concrete_of}
 use Rattle.lowering.specs.Seeking.{has_access, uses}
 use Rattle.lowering.specs.Shapes.{Allows}
 use Rattle.lowering.specs.Starts.{IsBehind, IsNext, MayStart, StartsInPlace, StartsInPlace_in}
-use Rattle.lowering.specs.Sums.{are_bound, first_sum, inside_of, is_met, reads, reads_any, starts_at, stands_before, sum_at, sum_tree}
+use Rattle.lowering.specs.Sums.{are_bound, first_sum, inside_of, is_met, reads, reads_any, starts_at, sum_at, sum_tree}
 use Rattle.lowering.specs.Sums.{through, vars_at}
 use Rattle.lowering.specs.Wrapped.{inside_code, wrapped}
 use Rattle.lowering.proofs.Accesses.{each_access, or_left, or_right}

@@ -1,5 +1,6 @@
 pub mod Accesses
 pub mod Around
+pub mod Counts
 pub mod Equations
 pub mod Fits
 pub mod FlatSums

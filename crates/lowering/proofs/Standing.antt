@@ -10,12 +10,12 @@ use Rattle.index_notation.specs.declared.syntax.Expr.{Expr, Num, Access as Acces
 use Rattle.index_notation.specs.declared.syntax.Statement.{Statement}
 use Rattle.iteration_graph.specs.Edges.{by_level}
 use Rattle.lists.specs.Each.{Each}
-use Rattle.expr_terms.specs.Terms.{contains, is_at_access, stands_in, stands_inside}
+use Rattle.expr_terms.specs.Terms.{contains, is_at_access, stands_in, stands_inside, stands_before}
 use Rattle.concrete_notation.proofs.Points.{each_contained}
 use Rattle.loop_code.specs.Parts.{given}
 use Rattle.lowering.specs.Layouts.{layout_of, levels_of, variables_of}
 use Rattle.lowering.specs.Seeking.{has_access, has_access_in}
-use Rattle.lowering.specs.Sums.{HasSums, are_bound, first_sum, stands_before, vars_of}
+use Rattle.lowering.specs.Sums.{HasSums, are_bound, first_sum, vars_of}
 use Rattle.lowering.proofs.Accesses.{or_left, or_right}
 use Rattle.lowering.proofs.Through.{both_so, so_both}
 

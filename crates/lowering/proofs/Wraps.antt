@@ -8,7 +8,7 @@ use Rattle.format_spec.specs.declared.format.FormatLevel.{FormatLevel}
 use Rattle.index_notation.specs.Statement.{numbers_from}
 use Rattle.index_notation.specs.declared.syntax.Statement.{Statement}
 use Rattle.lists.specs.Each.{Each}
-use Rattle.expr_terms.specs.Terms.{contains, plain_term}
+use Rattle.expr_terms.specs.Terms.{contains, plain_term, stands_before}
 use Rattle.concrete_notation.specs.declared.concrete.Concrete.{Concrete, Forall}
 use Rattle.concrete_notation.specs.declared.concrete.Concrete.TheBlock.{hidden-the_row-Concrete-0}
 use Rattle.concrete_notation.proofs.Points.{each_contained, numbers_distinct}
@@ -22,7 +22,7 @@ use Rattle.lowering.specs.Layouts.{layout_of}
 use Rattle.lowering.specs.Lowered.{concrete_of}
 use Rattle.lowering.specs.Seeking.{has_access, reached, seeks_at, uses}
 use Rattle.lowering.specs.Shapes.{Allows, AreGood, AreReached, FindsBelow, FindsReached, HasStarts, IsStart, MayLoop, variables_at}
-use Rattle.lowering.specs.Sums.{are_bound, first_sum, inside_of, is_met, reads, reads_any, starts_at, stands_before, sum_at, sum_tree}
+use Rattle.lowering.specs.Sums.{are_bound, first_sum, inside_of, is_met, reads, reads_any, starts_at, sum_at, sum_tree}
 use Rattle.lowering.specs.Sums.{vars_at}
 use Rattle.lowering.specs.Wrapped.{inside_code, wrapped}
 use Rattle.lowering.proofs.Accesses.{each_access, or_left, or_right}

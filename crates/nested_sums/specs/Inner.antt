@@ -1,7 +1,7 @@
 -- Which nested sums are inner for a loop order: a sum is where its variable, and those of the sums within it, stand behind all variables
 -- that are free in it, and the sums within it are inner too. It is told of one variable at a time whether it is free, and what stands
 -- behind it: a sum is inner where it is so for every variable.
-use Rattle.std.specs.Prelude.{ℕ, ◌+◌, nat_eq, Bool, true, false, not, ◌&&◌, ◌||◌, if◌then◌else◌, List, [], ◌∷◌, length, map}
+use Rattle.std.specs.Prelude.{ℕ, ◌+◌, nat_eq, Bool, true, false, not, ◌&&◌, ◌||◌, List, length, map}
 use Rattle.std.specs.Prelude.{Option, None, Some, slice_get}
 use Rattle.std.specs.List.{list_all}
 use Rattle.index_notation.specs.Statement.{numbers_from}
@@ -9,14 +9,9 @@ use Rattle.index_notation.specs.declared.syntax.Access.{Access}
 use Rattle.index_notation.specs.declared.syntax.Expr.{Expr, Num, Access as AccessOf, Binary', Neg', Row_of-Expr, end_of-Expr, more_of-Expr}
 use Rattle.index_notation.specs.declared.syntax.NestedSum.{NestedSum}
 use Rattle.index_notation.specs.declared.syntax.Statement.{Statement}
-use Rattle.expr_terms.specs.Terms.{contains}
+use Rattle.expr_terms.specs.Terms.{contains, stands_before}
 pub use Rattle.nested_sums.specs.declared.inner_sums.Standing.{Standing}
 use Rattle.nested_sums.specs.Told.{told_with}
-
--- whether a variable stands before another in an order
-abbrev pub stands_before : List ℕ → ℕ → ℕ → Bool
-stands_before [] first second = false
-stands_before (v ∷ order) first second = if nat_eq v first then contains order second else stands_before order first second
 
 -- of nothing
 abbrev pub none_stands : Standing

@@ -1,7 +1,7 @@
 //! Which nested sums are inner for a loop order, told without memory: what stands inside a sum is read anew for each variable.
 ghost use Rattle.std.specs.Prelude.{◌≡◌, ◌<◌, length, take};
-ghost use Rattle.expr_terms.specs.Terms.{contains};
-ghost use Rattle.nested_sums.specs.Inner.{stands_before, none_stands, access_standing, both_standing, sum_standing, standing_in, standings};
+ghost use Rattle.expr_terms.specs.Terms.{contains, stands_before};
+ghost use Rattle.nested_sums.specs.Inner.{none_stands, access_standing, both_standing, sum_standing, standing_in, standings};
 ghost use Rattle.nested_sums.specs.Inner.{is_inner};
 
 use index_notation::{Access, Expr, Statement};

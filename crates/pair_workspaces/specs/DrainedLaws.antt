@@ -7,13 +7,13 @@ use Rattle.kernel_code.specs.declared.syntax.Arr.TheVariants.{ListCoordinates, L
 use Rattle.kernel_code.specs.Meaning.{State}
 use Rattle.tensor_map.specs.Entries.{Entry}
 use Rattle.term_code.specs.WorkspaceSinks.{HoldsRows, IsOfWorkspace}
-use Rattle.result_targets.specs.Scratch.{is_scratch}
+use Rattle.result_targets.specs.Scratch.{is_of_some_list}
 use Rattle.drained_workspaces.specs.Draining.{DrainingLaws}
 use Rattle.pair_workspaces.specs.Drained.{pair_draining}
 use Rattle.pair_workspaces.specs.Sinks.{PairSink, IsOther, pair_sink}
 
 -- no array of a workspace is a scratch list's
-not_list : (w : ℕ) (b : Arr) → IsOfWorkspace w b → is_scratch b ≡ false
+not_list : (w : ℕ) (b : Arr) → IsOfWorkspace w b → is_of_some_list b ≡ false
 not_list w Range of = refl
 not_list w (Values n) of = refl
 not_list w (Dimension n k) of = refl

@@ -9,7 +9,7 @@ use Rattle.kernel_code.specs.declared.syntax.Kernel.{Kernel}
 use Rattle.kernel_code.specs.Kernels.{empty_if, start_state}
 use Rattle.kernel_code.specs.Meaning.{State}
 use Rattle.level_core.specs.Meaning.{Arrays}
-use Rattle.result_targets.specs.Scratch.{is_scratch, IsThere, SameButLists, IsOfList, HasList, IsOfLists, HasLists}
+use Rattle.result_targets.specs.Scratch.{is_of_some_list, IsThere, SameButLists, IsOfList, HasList, IsOfLists, HasLists}
 
 -- where all arrays are the same, those of scratch lists are too
 pub all_same : (s t : State) → ((b : Arr) → t.arrays b ≡ s.arrays b) → SameButLists s t
@@ -23,7 +23,7 @@ pub there_words : (o : Option (List ℕ)) (xs : List ℕ) → o ≡ Some xs → 
 there_words o xs h = subst IsThere (sym h) tt
 
 -- a list is there wherever the arrays are that were there, but for other rows
-pub list_stays : (list : ℕ) (s t : State) → ((b : Arr) → is_scratch b ≡ true → IsThere (s.arrays b) → IsThere (t.arrays b))
+pub list_stays : (list : ℕ) (s t : State) → ((b : Arr) → is_of_some_list b ≡ true → IsThere (s.arrays b) → IsThere (t.arrays b))
     → HasList list s → HasList list t
 list_stays list s t there h =
     let c = words_there (t.arrays (ListCoordinates list)) (there (ListCoordinates list) refl
@@ -45,7 +45,7 @@ lists_start kernel arrays first past few = λ list from before.
     record { coordinates = []; positions = []; coordinates_are = ap empty_if there; positions_are = ap empty_if there }
 
 -- an array of a list is a scratch list's
-list_scratch : (list : ℕ) (a : Arr) → IsOfList list a → is_scratch a ≡ true
+list_scratch : (list : ℕ) (a : Arr) → IsOfList list a → is_of_some_list a ≡ true
 list_scratch list Range h = absurd h
 list_scratch list (Values n) h = absurd h
 list_scratch list (Dimension n k) h = absurd h
@@ -57,11 +57,11 @@ list_scratch list (Sums n) h = absurd h
 list_scratch list (ListCoordinates n) h = refl
 list_scratch list (ListPositions n) h = refl
 
-pub lists_scratch : (first past : ℕ) (a : Arr) → IsOfLists first past a → is_scratch a ≡ true
+pub lists_scratch : (first past : ℕ) (a : Arr) → IsOfLists first past a → is_of_some_list a ≡ true
 lists_scratch first past a h = list_scratch h.list a h.of
 
 -- an array of none is none of these lists
-pub off_lists : (first past : ℕ) (a : Arr) → is_scratch a ≡ false → IsOfLists first past a → ⊥
+pub off_lists : (first past : ℕ) (a : Arr) → is_of_some_list a ≡ false → IsOfLists first past a → ⊥
 off_lists first past a none h = absurd (let both : true ≡ false = sym (lists_scratch first past a h) ∙ none in cc both)
 
 one_list : (a : Arr) (m n : ℕ) → IsOfList m a → IsOfList n a → m ≡ n

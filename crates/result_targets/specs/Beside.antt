@@ -1,7 +1,7 @@
 -- A sink beside scratch lists, which code may fill while the sink holds its rows.
 use Rattle.std.specs.Prelude.{◌≡◌, ℕ, true}
 use Rattle.kernel_code.specs.declared.syntax.Arr.{Arr}
-use Rattle.result_targets.specs.Scratch.{is_scratch, IsOffLists, HasLists}
+use Rattle.result_targets.specs.Scratch.{is_of_some_list, IsOffLists, HasLists}
 use Rattle.result_targets.specs.Sinks.{Sink}
 
 -- seen of a type whose values have a sink and two numbers: lists from the one to the one before the other needn't be left, and are there
@@ -21,4 +21,4 @@ beside_lists sink first past = beside (λ k. k) (λ k. first) (λ k. past) sink
 
 -- the sink leaves each scratch list
 abbrev pub LeavesLists : {K : Type 0} → Sink K → K → Type 0
-LeavesLists sink k = (b : Arr) → is_scratch b ≡ true → sink.kept k b
+LeavesLists sink k = (b : Arr) → is_of_some_list b ≡ true → sink.kept k b

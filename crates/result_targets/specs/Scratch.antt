@@ -6,17 +6,17 @@ use Rattle.kernel_code.specs.declared.syntax.Arr.TheVariants.{ListCoordinates, L
 use Rattle.kernel_code.specs.Meaning.{State}
 
 -- whether the array is one of a scratch list
-abbrev pub is_scratch : Arr → Bool
-is_scratch Range = false
-is_scratch (Values n) = false
-is_scratch (Dimension n k) = false
-is_scratch (Ends n k) = false
-is_scratch (Coordinates n k) = false
-is_scratch (Width n k) = false
-is_scratch (Key n k) = false
-is_scratch (Sums n) = false
-is_scratch (ListCoordinates n) = true
-is_scratch (ListPositions n) = true
+abbrev pub is_of_some_list : Arr → Bool
+is_of_some_list Range = false
+is_of_some_list (Values n) = false
+is_of_some_list (Dimension n k) = false
+is_of_some_list (Ends n k) = false
+is_of_some_list (Coordinates n k) = false
+is_of_some_list (Width n k) = false
+is_of_some_list (Key n k) = false
+is_of_some_list (Sums n) = false
+is_of_some_list (ListCoordinates n) = true
+is_of_some_list (ListPositions n) = true
 
 -- there is such an array
 abbrev pub IsThere : Option (List ℕ) → Type 0
@@ -25,8 +25,8 @@ IsThere (Some xs) = Unit {0}
 
 -- the second state has the arrays of the first, but that scratch lists which are there may have other rows
 pub record SameButLists (s t : State) : Type 0 where
-  pub same : (b : Arr) → is_scratch b ≡ false → t.arrays b ≡ s.arrays b
-  pub there : (b : Arr) → is_scratch b ≡ true → IsThere (s.arrays b) → IsThere (t.arrays b)
+  pub same : (b : Arr) → is_of_some_list b ≡ false → t.arrays b ≡ s.arrays b
+  pub there : (b : Arr) → is_of_some_list b ≡ true → IsThere (s.arrays b) → IsThere (t.arrays b)
 
 -- the array is one of the scratch list of a number
 abbrev pub IsOfList : ℕ → Arr → Type 0

@@ -22,7 +22,7 @@ use Rattle.format_spec.specs.Formats.{letters_of}
 use Rattle.index_notation.specs.declared.syntax.Statement.{Statement}
 use Rattle.tensor_map.specs.Entries.{Entry}
 use Rattle.tensor_storage.specs.Storages.{in_level_order}
-use Rattle.result_targets.specs.Scratch.{is_scratch, IsOffLists}
+use Rattle.result_targets.specs.Scratch.{is_of_some_list, IsOffLists}
 use Rattle.result_targets.proofs.Scratch.{off_lists}
 use Rattle.term_code.specs.WorkspaceSinks.{HoldsRows, IsOfWorkspace, column, values}
 use Rattle.kernel_correctness.specs.Stores.{Store, IsStoreOf, StartsBelow}
@@ -44,7 +44,7 @@ pub record IsFilled (nothing : ℕ) (letters : List Letter) (sizes : List ℕ) (
   pub list : t.arrays (ListPositions g) ≡ Some []
   pub turns : (k : LoopKind) → t.turns k ≤ most k
 
-pub not_scratch : (tensor level : ℕ) (x : Arr) → IsOf tensor level x → is_scratch x ≡ false
+pub not_scratch : (tensor level : ℕ) (x : Arr) → IsOf tensor level x → is_of_some_list x ≡ false
 not_scratch tensor level Range of = refl
 not_scratch tensor level (Values n) of = refl
 not_scratch tensor level (Dimension n k) of = refl

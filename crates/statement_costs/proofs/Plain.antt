@@ -17,7 +17,6 @@ use Rattle.index_notation.specs.declared.syntax.Expr.TheOpen as view
 use Rattle.index_notation.specs.declared.syntax.Statement.{Statement}
 use Rattle.expr_terms.specs.Points.{with_coordinate}
 use Rattle.expr_terms.specs.Terms.{terms}
-use Rattle.concrete_notation.specs.declared.concrete.Concrete.{Concrete}
 use Rattle.concrete_notation.specs.Nests.{Nest, nest_of}
 use Rattle.loop_code.specs.declared.loops.LoopCode.{LoopCode, Add, Both', Loop', Sum', Row_of-LoopCode, end_of-LoopCode, more_of-LoopCode}
 use Rattle.loop_code.specs.Loops.{Stored}
@@ -26,8 +25,8 @@ use Rattle.loop_code.specs.Parts.{is_full, is_live, is_some, remains}
 use Rattle.loop_code.specs.Turns.{count_below}
 use Rattle.lowering.specs.Held.{path_span}
 use Rattle.lowering.specs.Layouts.{layout_of, variables_of}
-use Rattle.lowering.specs.Seeking.{reached, uses}
-use Rattle.lowering.specs.Sums.{first_sum, reads_any, starts_at, through}
+use Rattle.lowering.specs.Seeking.{reached}
+use Rattle.lowering.specs.Sums.{first_sum, starts_at}
 use Rattle.statement_costs.specs.Costs.{at, group_length, group_of, group_repeats, groups_length, has_started, in_place, is_full_group}
 use Rattle.statement_costs.specs.Costs.{is_here, is_walked, is_wanted, next_level, of_starting, opened_group, own_group, present_at}
 use Rattle.statement_costs.specs.Costs.{segment_length, some_term, statement_cost, statement_repeats, sum_walked, total, with_others}
@@ -98,10 +97,6 @@ before_or_behind k n = grind (arith, nat_tests)
 module _ (s : Statement) (none : s.sums ≡ []) where
   no : length s.sums ≡ 0
   no = ap length none
-
-  -- what is read is used
-  pub reads_plain : (c : Concrete) (k : ℕ) → reads_any s c k ≡ uses c k
-  reads_plain c k = ap (λ n. through s n (uses c) k) no
 
   pub opened_same : (started : ℕ → Bool) (group : List Nest) → opened_group s started group ≡ group
   opened_same started group = ap (λ n. map (with_others (in_place s started n)) group) no ∙ each_same group

@@ -11,7 +11,7 @@ use Rattle.index_notation.specs.declared.syntax.Expr.{Expr}
 use Rattle.index_notation.specs.declared.syntax.Statement.{Statement}
 use Rattle.lists.specs.Each.{Each}
 use Rattle.expr_terms.specs.Points.{with_coordinate}
-use Rattle.expr_terms.specs.Terms.{contains}
+use Rattle.expr_terms.specs.Terms.{contains, stands_before}
 use Rattle.expr_terms.specs.declared.term.Term.{Term}
 use Rattle.concrete_notation.specs.declared.concrete.Concrete.TheBlock.{hidden-the_row-Concrete-0}
 use Rattle.concrete_notation.specs.Nests.{Nest, inside, next_loops, nests, SharesLoops}
@@ -28,7 +28,7 @@ use Rattle.lowering.specs.Layouts.{layout_of}
 use Rattle.lowering.specs.Lowered.{concrete_of}
 use Rattle.lowering.specs.Seeking.{has_access}
 use Rattle.lowering.specs.Shapes.{Allows}
-use Rattle.lowering.specs.Sums.{are_bound, first_sum, is_met, reads_any, stands_before, starts_at, sum_at, sum_tree, vars_at}
+use Rattle.lowering.specs.Sums.{are_bound, first_sum, is_met, reads_any, starts_at, sum_at, sum_tree, vars_at}
 use Rattle.lowering.proofs.Standing.{none_behind}
 use Rattle.lowering.proofs.Through.{so_both}
 use Rattle.statement_costs.specs.Costs.{at, group_of, has_started, has_started_before, inside_of, is_here, is_there, is_wanted}

@@ -1,8 +1,8 @@
 -- A kernel of a statement is refused a workspace only where the statement calls for one, where each level of the result has an order only
 -- where one head needs so many pairs, and where one variable alone is the key only where that one's range is too large for marks.
-use Rattle.std.specs.Prelude.{◌≡◌, ℕ, ◌<◌, Bool, true, false, List, length, Option, None, Some, Result, Ok, Err, Vec, refl}
+use Rattle.std.specs.Prelude.{◌≡◌, ℕ, ◌<◌, Bool, true, false, List, length, Option, None, Some, Ok, Vec, refl}
 use Rattle.std.specs.List.{list_any}
-use Rattle.std.proofs.Common.{◌∙◌, sym, ap, subst, arith}
+use Rattle.std.proofs.Common.{◌∙◌, ap, subst, arith}
 use Rattle.limits.specs.Limits.{greatest_position_count}
 use Rattle.numbers.specs.Arithmetic.{Arithmetic}
 use Rattle.std.specs.declared.alloc.Global.{Global}
@@ -13,7 +13,6 @@ use Rattle.kernel_code.specs.Kernels.{NotFinished, TooLong}
 use Rattle.format_spec.specs.declared.format.FormatLevel.{FormatLevel}
 use Rattle.index_notation.specs.declared.syntax.Statement.{Statement}
 use Rattle.expr_terms.specs.declared.bound.Bound.{Bound}
-use Rattle.expr_terms.specs.declared.range_fault.RangeFault.{RangeFault}
 use Rattle.iteration_graph.specs.Edges.{format_of}
 use Rattle.expr_terms.specs.Nested.{flat}
 use Rattle.kernel_correctness.specs.Kernels.{looped}
@@ -30,6 +29,7 @@ use Rattle.taco_compiler.specs.Tails.{HasLargeKey}
 use Rattle.kernel_runs.specs.Runs.{IsStoreFor}
 use Rattle.kernel_runs.specs.Steps.{StopsOn}
 use Rattle.kernel_runs.proofs.Outcomes.{outcome_is}
+use Rattle.kernel_runs.proofs.Fits.{same_ranges}
 use Rattle.taco_top.specs.Values.{Values}
 use Rattle.taco_top.specs.Told.{IsKernelOf}
 use Rattle.taco_top.specs.Stored.{NeedsStoredPairs, NeedsStoredWorkspace, stored_entries, stored_formats, stored_statement}
@@ -113,12 +113,6 @@ workspace_needed over s formats (Some plan) order kernel given entries bounds co
 }
 
 -- ---- no head needs so many where each fits
-same_ranges : (r : Result (List ℕ) RangeFault) (xs ys : List ℕ) → r ≡ Ok xs → r ≡ Ok ys → xs ≡ ys
-same_ranges (Ok zs) xs ys x y =
-    let first : zs ≡ xs = cc in
-    let second : zs ≡ ys = cc in sym first ∙ second
-same_ranges (Err fault) xs ys x y = absurd cc
-
 passes_none : (a : Arithmetic) (s : Statement) (formats : List (List FormatLevel)) (order ranges own : List ℕ) (entries : List Entries)
     (store : Store) (count : ℕ) → ranges ≡ own → IsStoreFor a s formats own entries store → greatest_position_count < count
     → HeadsFit a s formats order ranges entries

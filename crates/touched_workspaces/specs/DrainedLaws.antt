@@ -8,7 +8,7 @@ use Rattle.kernel_code.specs.declared.syntax.Arr.TheVariants.{ListCoordinates, L
 use Rattle.kernel_code.specs.Meaning.{State}
 use Rattle.tensor_map.specs.Entries.{Entry}
 use Rattle.term_code.specs.WorkspaceSinks.{HoldsRows, IsOfWorkspace}
-use Rattle.result_targets.specs.Scratch.{is_scratch}
+use Rattle.result_targets.specs.Scratch.{is_of_some_list}
 use Rattle.drained_workspaces.specs.Draining.{DrainingLaws}
 use Rattle.touched_workspaces.specs.Drained.{touched_draining}
 use Rattle.touched_workspaces.specs.Drains.{AreWaiting, IsDraining}
@@ -16,7 +16,7 @@ use Rattle.touched_workspaces.specs.Sinks.{TouchedSink, HasRange, IsOfTouched, H
 use Rattle.touched_workspaces.specs.Touched.{HoldsMarked}
 
 -- no array of a workspace is a scratch list's
-not_list : (w : ℕ) (b : Arr) → IsOfWorkspace w b → is_scratch b ≡ false
+not_list : (w : ℕ) (b : Arr) → IsOfWorkspace w b → is_of_some_list b ≡ false
 not_list w Range of = refl
 not_list w (Values n) of = refl
 not_list w (Dimension n k) of = refl
@@ -28,7 +28,7 @@ not_list w (Sums n) of = refl
 not_list w (ListCoordinates n) of = absurd of
 not_list w (ListPositions n) of = absurd of
 
-pub not_scratch : (k : TouchedSink) (b : Arr) → IsOfTouched k b → is_scratch b ≡ false
+pub not_scratch : (k : TouchedSink) (b : Arr) → IsOfTouched k b → is_of_some_list b ≡ false
 not_scratch k b (inl of) = not_list k.dense b of
 not_scratch k b (inr of) = not_list k.list b of
 
